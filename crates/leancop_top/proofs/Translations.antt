@@ -1,9 +1,6 @@
 -- How translating a problem ends, and what is done with the translation.
-use Rattle.std.proofs.Common.{◌≡◌, ◌↔◌, ◌<◌, ◌≤◌, ℕ, List, Option, Result, Ok, Err, inl, inr, ap, subst, sym, ◌∙◌}
-use Rattle.std.specs.Prelude.{IfOk}
+use Rattle.std.proofs.Common.{◌≡◌, ◌↔◌, ◌<◌, ◌≤◌, ℕ, List, Result, Ok, Err, inl, inr, ap, subst, sym, ◌∙◌}
 use Rattle.std.proofs.lemmas.Bool.{cases_lt}
-use Rattle.cop_base.specs.Outside.{Files}
-use Rattle.cop_base.specs.declared.NoMemory.{NoMemory}
 use Rattle.calculus.specs.Measures.{nesting, node_count}
 use Rattle.calculus.specs.Derivations.{Derivation}
 use Rattle.calculus.specs.Syntax.{Problem, Setting}
@@ -11,14 +8,11 @@ use Rattle.calculus.specs.Translation.{translated_problem, translation_of}
 use Rattle.calculus.specs.Versions.{IsTextIn, NumberedDerivation, stated}
 use Rattle.calculus.specs.declared.setting.Logic.TheVariants.{Intuitionistic}
 use Rattle.calculus.specs.declared.version.Version.{Version}
-use Rattle.command_line.specs.Table.{Word}
 use Rattle.godel_transfer.specs.declared.fault.TransferFault.{TransferFault}
 use Rattle.godel_transfer.specs.declared.fault.TransferFault.TheVariants as fault
-use Rattle.leancop_top.specs.Commands.Check.{CheckEnds, TranslatedCheckEnds, translated}
 use Rattle.leancop_top.specs.Reading.{IsReadIn}
-use Rattle.leancop_top.specs.Translating.{IsTranslatable, IsTranslated}
+use Rattle.leancop_top.specs.Translating.{IsTranslatable}
 use Rattle.leancop_top.specs.declared.problem.Reading.TheVariants.{Read}
-use Rattle.leancop_top.specs.declared.reply.Reply.{Reply}
 
 ok-err : {A : Type 0} (x : A) (f : TransferFault) (r : Result A TransferFault) → r ≡ Ok x → r ≡ Err f → ⊥
 ok-err x f r h k = absurd (cc)
@@ -40,12 +34,6 @@ fits P x r e deep large =
       nests = nests;
       nodes = at_most 4000000 (node_count (translation_of P.formula)) (λ h. ok-err x fault.FormulaTooLarge r e (large.1 (nests, h)));
     }
-
--- the judgement for the translated problem
-pub translated-ends : (told : Option Files) (P Q : Problem) (derivation : Word) (r : Result Reply NoMemory) → IsTranslated P Q → IfOk r (λ x. CheckEnds told Q derivation x.status x.output.items) → IfOk r (λ x. TranslatedCheckEnds told P derivation x.status x.output.items)
-translated-ends told P Q d (Ok x) t h =
-    translated x.status x.output.items t.translatable (subst (λ R. CheckEnds told R d x.status x.output.items) t.same h)
-translated-ends told P Q d (Err f) t h = tt
 
 -- a problem that is read in intuitionistic logic is one of it
 pub intuitionistic : (s : Setting) (P : Problem) → s.logic ≡ Intuitionistic → IsReadIn s (Read P) → P.setting.logic ≡ Intuitionistic

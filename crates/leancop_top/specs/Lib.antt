@@ -1,5 +1,6 @@
 pub mod FaultTexts
 pub mod Statuses
+pub mod Telling
 pub mod FaultView
 pub mod Reading
 pub mod SecondFile
@@ -7,10 +8,12 @@ pub mod Opening
 pub mod Translating
 pub mod Unclosed
 pub mod TableauSearch
+pub mod SearchView
 pub mod Derived
 pub mod Accepted
 pub mod TableauTexts
 pub mod MadeLines
 pub mod Commands
+pub mod Tasks
 pub mod Laws
 pub mod Run

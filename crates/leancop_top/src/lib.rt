@@ -3,7 +3,9 @@
 
 mod commands;
 mod fault_text;
+mod inputs;
 mod made_lines;
+mod performing;
 mod problem;
 mod program;
 mod reply;
@@ -11,6 +13,7 @@ mod second_file;
 mod status;
 mod status_line;
 mod tableau_search;
+mod task;
 mod text_library;
 mod translation;
 mod writing;

@@ -17,24 +17,24 @@ ghost use Rattle.problem_build.specs.Fetching.{ReadsOnly};
 ghost use Rattle.source_theory.specs.Following.{MeansItems};
 ghost use Rattle.leancop_top.specs.Opening.{MayRead};
 
-use crate::commands::check::{check, check_translated};
-use crate::commands::convert::convert;
-use crate::commands::make::make;
-use crate::commands::migrate::migrate;
-use crate::commands::model::model;
-use crate::commands::prove::prove;
-use crate::commands::tableau::tableau;
-use crate::commands::tcheck::tcheck;
-use crate::commands::transfer::transfer;
-use crate::reply::{Reply, line_reply};
+use crate::inputs::read_task;
+use crate::performing::perform;
+use crate::reply::Reply;
 use crate::status::Status;
 use crate::writing::put_all;
-use command_line::{Command, command_of};
 use cop_base::{Library, NoMemory};
 use cop_sink::{PutFault, Sink};
 use std::alloc::Global;
 
-#[tactic(auto, using(problem_build::proofs::FetchingLaws::only_same))]
+// A fault of the sink is told as one.
+fn status_of(fault: PutFault) -> Status
+    ensures { result ≡ Status.WriteFault }
+{
+    match fault {
+        PutFault::Failed => Status::WriteFault,
+    }
+}
+
 fn answer<L: Library>(alloc: Global, words: &[String], lib: &mut L) -> Result<Reply, NoMemory>
     ensures same_files { L.holds lib.new ≡ L.holds lib.old }
     ensures more_faults { L.faults lib.old ≤ L.faults lib.new }
@@ -48,39 +48,8 @@ fn answer<L: Library>(alloc: Global, words: &[String], lib: &mut L) -> Result<Re
         (L.misses lib.old) (L.misses lib.new) (L.faults lib.old) (L.faults lib.new)
         (L.reads lib.new) r.status) }
 {
-    match command_of(words) {
-        Command::Prove {
-            problem,
-            bounds,
-            version,
-        } => prove(alloc, lib, problem, bounds, version),
-        Command::Check {
-            problem,
-            derivation,
-        } => check(alloc, lib, problem, derivation),
-        Command::CheckTranslated {
-            problem,
-            derivation,
-        } => check_translated(alloc, lib, problem, derivation),
-        Command::Transfer {
-            problem,
-            derivation,
-        } => transfer(alloc, lib, problem, derivation),
-        Command::Migrate {
-            problem,
-            derivation,
-        } => migrate(alloc, lib, problem, derivation),
-        Command::Make { problem, bounds } => make(alloc, problem, bounds),
-        Command::Model {
-            problem,
-            structure,
-            steps,
-        } => model(alloc, lib, problem, structure, steps),
-        Command::Tableau { problem, bounds } => tableau(alloc, lib, problem, bounds),
-        Command::Tcheck { problem, tableau } => tcheck(alloc, lib, problem, tableau),
-        Command::Convert { problem, tableau } => convert(alloc, lib, problem, tableau),
-        Command::Bad { place } => line_reply(alloc, Status::BadWords { place }),
-    }
+    let task = read_task(alloc, words, lib)?;
+    perform(alloc, task)
 }
 
 /// Does all that the program does. `words` are the words after the program's own name. The whole
@@ -148,7 +117,7 @@ pub fn run<L: Library, K: Sink>(
     match answer(alloc, words.as_slice(), lib) {
         Ok(reply) => match put_all(out, reply.output.as_slice()) {
             Ok(()) => reply.status,
-            Err(PutFault::Failed) => Status::WriteFault,
+            Err(fault) => status_of(fault),
         },
         Err(NoMemory) => Status::NoMemory,
     }

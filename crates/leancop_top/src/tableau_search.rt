@@ -3,6 +3,7 @@
 ghost use Rattle.std.specs.Prelude.{◌≡◌, ◌-◌, IfOk, IfSome, IsTrue, None};
 ghost use Rattle.calculus.specs.Tableaux.{is_closed};
 ghost use Rattle.command_line.specs.CommandView.{the_bounds};
+ghost use Rattle.leancop_top.specs.SearchView.{searched_as};
 ghost use Rattle.leancop_top.specs.TableauSearch.{IsCutMissed, IsLeastCut, IsSearched};
 ghost use Rattle.search_theory.specs.Matrix.{IsTemplateMatrix};
 ghost use Rattle.tableau_core.specs.Numbered.TableauView.{the_tableau};
@@ -53,6 +54,18 @@ fn search_cut(
     }
 }
 
+// The budget is told where it ended.
+fn searched_as(answer: Answer, steps: u64) -> Searched
+    ensures { result ≡ searched_as answer steps }
+{
+    match answer {
+        Answer::Closed { limit, tableau } => Searched::Found { limit, tableau },
+        Answer::Exhausted { limit } => Searched::Fruitless(Status::Exhausted { limit }),
+        Answer::NoTableau { limit } => Searched::Fruitless(Status::NoTableau { limit }),
+        Answer::Steps { limit } => Searched::Fruitless(Status::StepsEnded { limit, steps }),
+    }
+}
+
 /// Builds the matrix and searches the path limits from 1 on; first without returning to solved goals,
 /// where that is asked for, with a budget of its own. The matrix is given back here.
 pub fn search(alloc: Global, problem: &Problem, bounds: Bounds) -> Result<Searched, NoMemory>
@@ -70,10 +83,6 @@ pub fn search(alloc: Global, problem: &Problem, bounds: Bounds) -> Result<Search
         return Ok(Searched::Found { limit, tableau });
     }
     let mut ledger = Ledger::new(steps);
-    match deepen(alloc, problem, &matrix, bounds.limit, &mut ledger)? {
-        Answer::Closed { limit, tableau } => Ok(Searched::Found { limit, tableau }),
-        Answer::Exhausted { limit } => Ok(Searched::Fruitless(Status::Exhausted { limit })),
-        Answer::NoTableau { limit } => Ok(Searched::Fruitless(Status::NoTableau { limit })),
-        Answer::Steps { limit } => Ok(Searched::Fruitless(Status::StepsEnded { limit, steps })),
-    }
+    let answer = deepen(alloc, problem, &matrix, bounds.limit, &mut ledger)?;
+    Ok(searched_as(answer, steps))
 }

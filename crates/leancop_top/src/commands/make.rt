@@ -7,7 +7,9 @@ ghost use Rattle.calculus.specs.Tableaux.{is_closed};
 ghost use Rattle.command_line.specs.CommandLine as words;
 ghost use Rattle.command_line.specs.CommandView.{the_bounds, the_generated_problem};
 ghost use Rattle.leancop_top.specs.Commands.Make.{IsMade, MakeEnds, made_text, output_of};
+ghost use Rattle.cop_base.specs.Reads.{Read};
 ghost use Rattle.leancop_top.specs.Derived.{IsTrimmedDerivation};
+ghost use Rattle.leancop_top.specs.Statuses.{IsCounted};
 ghost use Rattle.tableau_core.specs.Numbered.TableauView.{the_tableau};
 
 use crate::commands::prove::derivation_text;
@@ -86,8 +88,9 @@ fn status_of_text(
 /// Makes the text, reads it from memory, searches, and has a derivation that is printed to memory
 /// accepted. No file is read.
 pub fn make(alloc: Global, generated: GeneratedProblem, bounds: Bounds) -> Result<Reply, NoMemory>
-    ensures { IfOk result (λ r. MakeEnds (the_generated_problem generated) (the_bounds bounds)
+    ensures ends { IfOk result (λ r. MakeEnds (the_generated_problem generated) (the_bounds bounds)
         r.status r.output.items) }
+    ensures counted { (m n f g : ℕ) (after : List Read) → IfOk result (λ r. IsCounted m n f g after r.status) }
 {
     let text = problem_gen::make(
         alloc,

@@ -1,28 +1,22 @@
 //! `prove FILE`: the derivation of a problem.
 
-ghost use Rattle.std.specs.Prelude.{◌≡◌, ◌≤◌, IfOk, IsTrue, Option};
+ghost use Rattle.std.specs.Prelude.{◌≡◌, IfOk, IsTrue, List, ℕ};
 ghost use Rattle.calculus.specs.DerivationText.{is_limit};
 ghost use Rattle.calculus.specs.Tableaux.{is_closed};
-ghost use Rattle.cop_base.specs.Outside.{Files};
-ghost use Rattle.cop_base.specs.Reads.{AgreesSince, ReadsOn};
-ghost use Rattle.command_line.specs.CommandLine.{prove};
-ghost use Rattle.command_line.specs.CommandView.{the_bounds, the_problem_file};
+ghost use Rattle.cop_base.specs.Reads.{Read};
+ghost use Rattle.command_line.specs.CommandView.{the_bounds};
 ghost use Rattle.leancop_top.specs.Commands.Prove.{ProveEnds};
 ghost use Rattle.leancop_top.specs.Derived.{IsTrimmed, IsTrimmedDerivation};
-ghost use Rattle.leancop_top.specs.Run.{Ends};
 ghost use Rattle.leancop_top.specs.Statuses.{IsCounted};
 ghost use Rattle.sequent_convert.specs.Conversion.{IsConverted};
 ghost use Rattle.sequent_calc.specs.DerivationView.{the_derivation};
 ghost use Rattle.tableau_core.specs.Numbered.TableauView.{the_tableau};
-ghost use Rattle.problem_build.specs.Fetching.{ReadsOnly};
-ghost use Rattle.leancop_top.specs.Opening.{MayRead};
 
-use crate::problem::{Reading, read_problem};
 use crate::reply::{Reply, line_reply};
 use crate::status::Status;
 use crate::tableau_search::{Searched, search};
-use command_line::{Bounds, ProblemFile};
-use cop_base::{Library, NoMemory};
+use command_line::Bounds;
+use cop_base::NoMemory;
 use derivation_text::{Version, print};
 use derivation_trim::trim;
 use logic_rules::Problem;
@@ -79,50 +73,33 @@ pub fn derivation_text(
     Ok(text)
 }
 
-fn prove_problem(
+// What is told of a derivation that is printed.
+fn derived(limit: u8, output: Vec<u8>) -> Reply
+    ensures status { result.status ≡ Status.Derived limit }
+    ensures output { result.output.items ≡ output.items }
+{
+    Reply {
+        status: Status::Derived { limit },
+        output,
+    }
+}
+
+/// The derivation, or how the search ends.
+pub fn prove(
     alloc: Global,
     problem: &Problem,
     bounds: Bounds,
     version: Version,
 ) -> Result<Reply, NoMemory>
-    ensures { IfOk result
+    ensures ends { IfOk result
         (λ r. ProveEnds problem.now (the_bounds bounds) version r.status r.output.items) }
+    ensures counted { (m n f g : ℕ) (after : List Read) → IfOk result (λ r. IsCounted m n f g after r.status) }
 {
     match search(alloc, problem, bounds)? {
         Searched::Found { limit, tableau } => {
             let output = derivation_text(alloc, problem, tableau, limit, version)?;
-            Ok(Reply {
-                status: Status::Derived { limit },
-                output,
-            })
+            Ok(derived(limit, output))
         }
         Searched::Fruitless(status) => line_reply(alloc, status),
-    }
-}
-
-pub fn prove<L: Library>(
-    alloc: Global,
-    lib: &mut L,
-    file: ProblemFile<'_>,
-    bounds: Bounds,
-    version: Version,
-) -> Result<Reply, NoMemory>
-    ensures same_files { L.holds lib.new ≡ L.holds lib.old }
-    ensures more_faults { L.faults lib.old ≤ L.faults lib.new }
-    ensures more_misses { L.misses lib.old ≤ L.misses lib.new }
-    ensures reads_on { ReadsOn (L.holds lib.old) (L.reads lib.old) (L.reads lib.new) }
-    ensures reads_only { (files : Files) → AgreesSince files (L.reads lib.old) (L.reads lib.new)
-        → ReadsOnly (MayRead files (prove (the_problem_file file.entry) (the_bounds bounds) version))
-        (L.reads lib.old) (L.reads lib.new) }
-    ensures ends { (told : Option Files) → ReadsOn told (L.reads lib.old) (L.reads lib.new)
-        → IfOk result (λ r. Ends told
-        (prove (the_problem_file file.entry) (the_bounds bounds) version) r.status r.output.items) }
-    ensures counted { IfOk result (λ r. IsCounted
-        (L.misses lib.old) (L.misses lib.new) (L.faults lib.old) (L.faults lib.new)
-        (L.reads lib.new) r.status) }
-{
-    match read_problem(alloc, lib, file)? {
-        Reading::Read(problem) => prove_problem(alloc, &problem, bounds, version),
-        Reading::Refused(status) => line_reply(alloc, status),
     }
 }

@@ -1,7 +1,7 @@
 //! `transfer FILE DERIVATION`: an intuitionistic derivation as one of the problem's translation into
 //! S4.
 
-ghost use Rattle.std.specs.Prelude.{◌≡◌, ◌≤◌, Err, IfOk, IsTrue, List, OnOk, Option, ℕ};
+ghost use Rattle.std.specs.Prelude.{◌≡◌, Err, IfOk, IsTrue, List, OnOk, Option, ℕ};
 ghost use Rattle.calculus.specs.declared.setting.Logic.TheVariants.{Intuitionistic};
 ghost use Rattle.calculus.specs.Calculus.{Derives};
 ghost use Rattle.calculus.specs.DerivationText.{is_printable};
@@ -10,28 +10,20 @@ ghost use Rattle.calculus.specs.Versions.{IsTextIn};
 ghost use Rattle.calculus.specs.declared.fault.CheckFault.{CheckFault};
 ghost use Rattle.calculus.specs.declared.version.Version.{Version};
 ghost use Rattle.cop_base.specs.Outside.{Files};
-ghost use Rattle.cop_base.specs.Reads.{AgreesSince, Read, ReadsOn};
-ghost use Rattle.command_line.specs.CommandLine.{transfer};
-ghost use Rattle.command_line.specs.CommandView.{the_intuitionistic_file};
+ghost use Rattle.cop_base.specs.Reads.{Read};
 ghost use Rattle.derivation_check.specs.Only.{IsOnlyVersionJudgement};
 ghost use Rattle.leancop_top.specs.Accepted.{IsAcceptedIn};
 ghost use Rattle.leancop_top.specs.Commands.Transfer.{TransferEnds};
 ghost use Rattle.leancop_top.specs.Derived.{IsDerivation};
-ghost use Rattle.leancop_top.specs.Run.{Ends};
 ghost use Rattle.leancop_top.specs.SecondFile.{HasBytes};
 ghost use Rattle.leancop_top.specs.Statuses.{IsCounted};
 ghost use Rattle.leancop_top.specs.Translating.{IsTranslated};
 ghost use Rattle.sequent_calc.specs.DerivationView.{the_derivation};
-ghost use Rattle.problem_build.specs.Fetching.{ReadsOnly};
-ghost use Rattle.leancop_top.specs.Opening.{MayRead};
 
-use crate::problem::{Reading, read_intuitionistic};
 use crate::reply::{Reply, line_reply};
-use crate::second_file::{SecondFile, fetch_second};
 use crate::status::Status;
 use crate::translation::{Translation, translate_problem};
-use command_line::IntuitionisticFile;
-use cop_base::{Library, NoMemory};
+use cop_base::NoMemory;
 use derivation_check::{AcceptFault, accept};
 use derivation_text::{Version, derivation_of, print};
 use godel_transfer::TransferFault;
@@ -114,8 +106,8 @@ fn accepted_derivation(
     }
 }
 
-// The reply for the bytes that a file holds.
-fn transfer_bytes(alloc: Global, problem: &Problem, bytes: &[u8]) -> Result<Reply, NoMemory>
+/// The derivation is judged before the problem is translated.
+pub fn transfer(alloc: Global, problem: &Problem, bytes: &[u8]) -> Result<Reply, NoMemory>
     requires { problem.now.setting.logic ≡ Intuitionistic }
     ensures ends { (told : Option Files) (name : List ℕ) → HasBytes told name bytes.now
         → IfOk result (λ r. TransferEnds told problem.now name r.status r.output.items) }
@@ -127,56 +119,5 @@ fn transfer_bytes(alloc: Global, problem: &Problem, bytes: &[u8]) -> Result<Repl
             line_reply(alloc, Status::Rejected { line, fault })
         }
         Err(AcceptFault::NoMemory) => Err(NoMemory),
-    }
-}
-
-fn transfer_derivation<L: Library>(
-    alloc: Global,
-    lib: &mut L,
-    problem: &Problem,
-    derivation: &str,
-) -> Result<Reply, NoMemory>
-    requires { problem.now.setting.logic ≡ Intuitionistic }
-    ensures same_files { L.holds lib.new ≡ L.holds lib.old }
-    ensures more_faults { L.faults lib.old ≤ L.faults lib.new }
-    ensures more_misses { L.misses lib.old ≤ L.misses lib.new }
-    ensures reads_on { ReadsOn (L.holds lib.old) (L.reads lib.old) (L.reads lib.new) }
-    ensures reads_only { ReadsOnly (λ n. n ≡ derivation.now) (L.reads lib.old) (L.reads lib.new) }
-    ensures ends { (told : Option Files) → ReadsOn told (L.reads lib.old) (L.reads lib.new)
-        → IfOk result (λ r. TransferEnds told problem.now derivation.now r.status r.output.items) }
-    ensures counted { IfOk result (λ r. IsCounted
-        (L.misses lib.old) (L.misses lib.new) (L.faults lib.old) (L.faults lib.new)
-        (L.reads lib.new) r.status) }
-{
-    match fetch_second(alloc, lib, derivation)? {
-        SecondFile::Fetched(bytes) => transfer_bytes(alloc, problem, bytes.as_slice()),
-        SecondFile::NotFetched(status) => line_reply(alloc, status),
-    }
-}
-
-/// The derivation is judged before the problem is translated.
-pub fn transfer<L: Library>(
-    alloc: Global,
-    lib: &mut L,
-    file: IntuitionisticFile<'_>,
-    derivation: &str,
-) -> Result<Reply, NoMemory>
-    ensures same_files { L.holds lib.new ≡ L.holds lib.old }
-    ensures more_faults { L.faults lib.old ≤ L.faults lib.new }
-    ensures more_misses { L.misses lib.old ≤ L.misses lib.new }
-    ensures reads_on { ReadsOn (L.holds lib.old) (L.reads lib.old) (L.reads lib.new) }
-    ensures reads_only { (files : Files) → AgreesSince files (L.reads lib.old) (L.reads lib.new)
-        → ReadsOnly (MayRead files (transfer (the_intuitionistic_file file.entry) derivation.now))
-        (L.reads lib.old) (L.reads lib.new) }
-    ensures ends { (told : Option Files) → ReadsOn told (L.reads lib.old) (L.reads lib.new)
-        → IfOk result (λ r. Ends told
-        (transfer (the_intuitionistic_file file.entry) derivation.now) r.status r.output.items) }
-    ensures counted { IfOk result (λ r. IsCounted
-        (L.misses lib.old) (L.misses lib.new) (L.faults lib.old) (L.faults lib.new)
-        (L.reads lib.new) r.status) }
-{
-    match read_intuitionistic(alloc, lib, file)? {
-        Reading::Read(problem) => transfer_derivation(alloc, lib, &problem, derivation),
-        Reading::Refused(status) => line_reply(alloc, status),
     }
 }

@@ -1,36 +1,38 @@
-use Rattle.std.proofs.Common.{subst}
-use Rattle.command_line.specs.CommandView.{the_problem_file}
-use Rattle.cop_base.proofs.ReadLaws.{reads-first, reads-rest, reads_then}
-use Rattle.leancop_top.proofs.Ends.{line-ends, read-ends}
-use Rattle.leancop_top.specs.Commands.Convert.{ConvertEnds}
-use Rattle.leancop_top.specs.Reading.{EndsOn, IsReading, without_problem}
-use Rattle.leancop_top.proofs.Opening.{both-read, first-alone}
+use Rattle.std.proofs.Common.{Err, ap}
+use Rattle.calculus.specs.TableauText.{tableau_rejected}
+use Rattle.leancop_top.proofs.Ends.{line-counted, line-ends}
+use Rattle.leancop_top.proofs.Tableaux.{judged-in, stated-in, stated-limit}
+use Rattle.leancop_top.specs.Commands.Convert.{ConvertEnds, converted, rejected}
+use Rattle.leancop_top.specs.declared.status.Status.TheVariants.{TableauRejected}
+use Rattle.tableau_core.specs.Numbered.TableauView.{the_tableau}
 use Rattle.leancop_top.proofs.commands.convert.convert.Goals as goal
 
-pub returns-in-Read-clause-ends : goal.returns-in-Read-clause-ends
-returns-in-Read-clause-ends g c = λ told w.
-    let p = the_problem_file c.args.file in
-    let h = c.in_ok-problem.ensures.reads_on in
-    let k = c.convert_text.ensures.reads_on in
-    read-ends told p c.in-Read.problem (λ Q. ConvertEnds told Q c.args.tableau.now) c.convert_text.result
-    (subst (IsReading told p) c.in-Read.is (c.in_ok-problem.ensures.reading told (reads-first told _ _ _ _ _ h k w)))
-    (c.convert_text.ensures.ends told (reads-rest told _ _ _ _ _ h k w))
+pub derivation_text-requires-clause-closed : goal.derivation_text-requires-clause-closed
+derivation_text-requires-clause-closed c = c.in-Ok.ensures.closed.closed
 
-pub returns-in-Read-clause-reads_on : goal.returns-in-Read-clause-reads_on
-returns-in-Read-clause-reads_on g c = reads_then c.in_ok-problem.ensures.same_files c.in_ok-problem.ensures.reads_on c.convert_text.ensures.reads_on
+pub derivation_text-requires-clause-limit : goal.derivation_text-requires-clause-limit
+derivation_text-requires-clause-limit c =
+    stated-limit c.args.problem.now (the_tableau c.in-Ok.tableau) c.in-Ok.limit c.args.bytes.now c.in-Ok.ensures.closed
 
-pub returns-in-Refused-clause-ends : goal.returns-in-Refused-clause-ends
-returns-in-Refused-clause-ends g c = λ told w.
-    let p = the_problem_file c.args.file in
-    line-ends (EndsOn told p (λ Q. ConvertEnds told Q c.args.tableau.now)) c.in-Refused.status c.line_reply.result c.line_reply.ensures.same c.line_reply.ensures.line
-    (without_problem c.in-Refused.status (subst (IsReading told p) c.in-Refused.is (c.in_ok-problem.ensures.reading told w)))
+pub returns-in_ok-output-in-Ok-clause-ends : goal.returns-in_ok-output-in-Ok-clause-ends
+returns-in_ok-output-in-Ok-clause-ends c = λ told name held.
+    let P = c.args.problem.now in
+    let t = the_tableau c.in-Ok.tableau in
+    converted c.in_ok-output-in-Ok.output.items (record {
+      given = t;
+      limit = c.in-Ok.limit;
+      accepted = stated-in told P name t c.in-Ok.limit c.args.bytes.now c.symbols-symbols.ensures.well held c.in-Ok.ensures.closed;
+      written = c.in_ok-output-in-Ok.ensures;
+    })
 
-pub returns-in-Read-clause-reads_only : goal.returns-in-Read-clause-reads_only
-returns-in-Read-clause-reads_only g c = λ files w.
-    both-read (the_problem_file c.args.file) c.args.tableau.now files c.in_ok-problem.ensures.reads_on c.convert_text.ensures.reads_on c.in_ok-problem.ensures.reads_only c.convert_text.ensures.reads_only w
+pub returns-in-Err-Bad-clause-ends : goal.returns-in-Err-Bad-clause-ends
+returns-in-Err-Bad-clause-ends c = λ told name held.
+    let P = c.args.problem.now in
+    let line = c.in-Err-Bad.line in
+    let fault = c.in-Err-Bad.fault in
+    line-ends (ConvertEnds told P name) (TableauRejected line fault) c.line_reply.result c.line_reply.ensures.same c.line_reply.ensures.line
+    (rejected line fault (judged-in told P name c.args.bytes.now (tableau_rejected line fault) c.symbols-symbols.ensures.well held (c.in-Err-Bad.ensures.bad line fault (ap Err c.in-Err-Bad.field-0-is))))
 
-pub returns-in-Refused-clause-reads_only : goal.returns-in-Refused-clause-reads_only
-returns-in-Refused-clause-reads_only g c = λ files w. first-alone (the_problem_file c.args.file) c.args.tableau.now files (c.in_ok-problem.ensures.reads_only files w)
-
-pub returns-in_err-problem-clause-reads_only : goal.returns-in_err-problem-clause-reads_only
-returns-in_err-problem-clause-reads_only g c = λ files w. first-alone (the_problem_file c.args.file) c.args.tableau.now files (c.in_err-problem.ensures.reads_only files w)
+pub returns-in-Err-Bad-clause-counted : goal.returns-in-Err-Bad-clause-counted
+returns-in-Err-Bad-clause-counted c = λ m n f g after.
+    line-counted m n f g after (TableauRejected c.in-Err-Bad.line c.in-Err-Bad.fault) c.line_reply.result c.line_reply.ensures.same tt

@@ -1,22 +1,39 @@
-use Rattle.std.proofs.Common.{subst}
-use Rattle.command_line.specs.CommandView.{the_bounds, the_problem_file}
-use Rattle.leancop_top.proofs.Ends.{line-ends, proved-counted, read-ends}
-use Rattle.leancop_top.specs.Commands.Prove.{ProveEnds}
-use Rattle.leancop_top.specs.Reading.{EndsOn, IsReading, without_problem}
+use Rattle.std.proofs.Common.{subst, sym}
+use Rattle.command_line.specs.CommandView.{the_bounds}
+use Rattle.leancop_top.proofs.Ends.{line-counted, line-ends, same-ends, search-counted, search-tells}
+use Rattle.leancop_top.specs.Commands.Prove.{ProveEnds, derived, fruitless}
+use Rattle.leancop_top.specs.Statuses.{IsCounted}
+use Rattle.leancop_top.specs.TableauSearch.{IsSearched}
+use Rattle.leancop_top.specs.declared.status.Status.TheVariants.{Derived}
+use Rattle.tableau_core.specs.Numbered.TableauView.{the_tableau}
 use Rattle.leancop_top.proofs.commands.prove.prove.Goals as goal
 
-pub returns-in-Read-clause-ends : goal.returns-in-Read-clause-ends
-returns-in-Read-clause-ends g c = λ told w.
-    let p = the_problem_file c.args.file in
-    read-ends told p c.in-Read.problem (λ Q. ProveEnds Q (the_bounds c.args.bounds) c.args.version) c.prove_problem.result
-    (subst (IsReading told p) c.in-Read.is (c.in_ok-problem.ensures.reading told w)) c.prove_problem.ensures
+pub line_reply-requires : goal.line_reply-requires
+line_reply-requires c =
+    let b = the_bounds c.args.bounds in
+    search-tells c.args.problem.now b c.in-Fruitless.status (subst (IsSearched c.args.problem.now b) c.in-Fruitless.is c.in_ok-limit.ensures)
 
-pub returns-in-Read-clause-counted : goal.returns-in-Read-clause-counted
-returns-in-Read-clause-counted g c =
-    proved-counted c.in-Read.problem (the_bounds c.args.bounds) c.args.version _ _ _ _ _ c.prove_problem.result c.prove_problem.ensures
+pub returns-in_ok-output-in-Found-clause-ends : goal.returns-in_ok-output-in-Found-clause-ends
+returns-in_ok-output-in-Found-clause-ends c =
+    let found = subst (IsSearched c.args.problem.now (the_bounds c.args.bounds)) c.in-Found.is c.in_ok-limit.ensures in
+    same-ends (ProveEnds c.args.problem.now (the_bounds c.args.bounds) c.args.version) (Derived c.in-Found.limit) c.derived.result.status _ _ c.derived.ensures.status c.derived.ensures.output
+    (derived c.in-Found.limit c.in_ok-output-in-Found.output.items (record {
+      closed = record { tableau = the_tableau c.in-Found.tableau; closed = found.closed };
+      limit_is = found.limit_is;
+      written = c.in_ok-output-in-Found.ensures;
+    }))
 
-pub returns-in-Refused-clause-ends : goal.returns-in-Refused-clause-ends
-returns-in-Refused-clause-ends g c = λ told w.
-    let p = the_problem_file c.args.file in
-    line-ends (EndsOn told p (λ Q. ProveEnds Q (the_bounds c.args.bounds) c.args.version)) c.in-Refused.status c.line_reply.result c.line_reply.ensures.same c.line_reply.ensures.line
-    (without_problem c.in-Refused.status (subst (IsReading told p) c.in-Refused.is (c.in_ok-problem.ensures.reading told w)))
+pub returns-in_ok-output-in-Found-clause-counted : goal.returns-in_ok-output-in-Found-clause-counted
+returns-in_ok-output-in-Found-clause-counted c = λ m n f g after. subst (IsCounted m n f g after) (sym c.derived.ensures.status) tt
+
+pub returns-in-Fruitless-clause-ends : goal.returns-in-Fruitless-clause-ends
+returns-in-Fruitless-clause-ends c =
+    let b = the_bounds c.args.bounds in
+    line-ends (ProveEnds c.args.problem.now b c.args.version) c.in-Fruitless.status c.line_reply.result c.line_reply.ensures.same c.line_reply.ensures.line
+    (fruitless c.in-Fruitless.status (subst (IsSearched c.args.problem.now b) c.in-Fruitless.is c.in_ok-limit.ensures))
+
+pub returns-in-Fruitless-clause-counted : goal.returns-in-Fruitless-clause-counted
+returns-in-Fruitless-clause-counted c = λ m n f g after.
+    let b = the_bounds c.args.bounds in
+    line-counted m n f g after c.in-Fruitless.status c.line_reply.result c.line_reply.ensures.same
+    (search-counted c.args.problem.now b m n f g after c.in-Fruitless.status (subst (IsSearched c.args.problem.now b) c.in-Fruitless.is c.in_ok-limit.ensures))

@@ -1,46 +1,21 @@
-use Rattle.std.proofs.Common.{refl, subst}
-use Rattle.calculus.specs.Syntax.{setting_of}
-use Rattle.calculus.specs.declared.setting.Domains.TheVariants.{Cumulative}
-use Rattle.calculus.specs.declared.setting.Logic.TheVariants.{Intuitionistic}
-use Rattle.command_line.specs.CommandLine.{in_intuitionistic}
-use Rattle.command_line.specs.CommandView.{the_intuitionistic_file}
-use Rattle.cop_base.proofs.ReadLaws.{reads-first, reads-rest, reads_then}
-use Rattle.leancop_top.proofs.Ends.{line-ends, read-ends}
-use Rattle.leancop_top.proofs.Translations.{intuitionistic}
-use Rattle.leancop_top.specs.Commands.Transfer.{TransferEnds}
-use Rattle.leancop_top.specs.Reading.{EndsOn, IsReadIn, IsReading, without_problem}
-use Rattle.leancop_top.proofs.Opening.{both-read, first-alone}
+use Rattle.std.proofs.Common.{Err, ap}
+use Rattle.leancop_top.proofs.Ends.{line-counted, line-ends}
+use Rattle.leancop_top.specs.Commands.Transfer.{TransferEnds, rejected}
+use Rattle.leancop_top.specs.declared.status.Status.TheVariants.{Rejected}
 use Rattle.leancop_top.proofs.commands.transfer.transfer.Goals as goal
 
-pub transfer_derivation-requires : goal.transfer_derivation-requires
-transfer_derivation-requires g c =
-    let s = setting_of Intuitionistic Cumulative in
-    intuitionistic s c.in-Read.problem refl (subst (IsReadIn s) c.in-Read.is c.in_ok-problem.ensures.setting)
+pub returns-in-Ok-clause-ends : goal.returns-in-Ok-clause-ends
+returns-in-Ok-clause-ends c = λ told name held.
+    c.transfer_accepted.ensures.ends told name
+    (record { text = c.args.bytes.now; held = held; version = c.in-Ok.ensures.text.0; is_text = c.in-Ok.ensures.text.1; judged = c.in-Ok.ensures.accepted })
 
-pub returns-in-Read-clause-ends : goal.returns-in-Read-clause-ends
-returns-in-Read-clause-ends g c = λ told w.
-    let p = in_intuitionistic (the_intuitionistic_file c.args.file) in
-    let h = c.in_ok-problem.ensures.reads_on in
-    let k = c.transfer_derivation.ensures.reads_on in
-    read-ends told p c.in-Read.problem (λ Q. TransferEnds told Q c.args.derivation.now) c.transfer_derivation.result
-    (subst (IsReading told p) c.in-Read.is (c.in_ok-problem.ensures.reading told (reads-first told _ _ _ _ _ h k w)))
-    (c.transfer_derivation.ensures.ends told (reads-rest told _ _ _ _ _ h k w))
+pub returns-in-Err-Rejected-clause-ends : goal.returns-in-Err-Rejected-clause-ends
+returns-in-Err-Rejected-clause-ends c = λ told name held.
+    let line = c.in-Err-Rejected.line in
+    let fault = c.in-Err-Rejected.fault in
+    line-ends (TransferEnds told c.args.problem.now name) (Rejected line fault) c.line_reply.result c.line_reply.ensures.same c.line_reply.ensures.line
+    (rejected line fault (record { text = c.args.bytes.now; held = held; judged = c.in-Err-Rejected.ensures.rejected line fault (ap Err c.in-Err-Rejected.field-0-is) }))
 
-pub returns-in-Read-clause-reads_on : goal.returns-in-Read-clause-reads_on
-returns-in-Read-clause-reads_on g c = reads_then c.in_ok-problem.ensures.same_files c.in_ok-problem.ensures.reads_on c.transfer_derivation.ensures.reads_on
-
-pub returns-in-Refused-clause-ends : goal.returns-in-Refused-clause-ends
-returns-in-Refused-clause-ends g c = λ told w.
-    let p = in_intuitionistic (the_intuitionistic_file c.args.file) in
-    line-ends (EndsOn told p (λ Q. TransferEnds told Q c.args.derivation.now)) c.in-Refused.status c.line_reply.result c.line_reply.ensures.same c.line_reply.ensures.line
-    (without_problem c.in-Refused.status (subst (IsReading told p) c.in-Refused.is (c.in_ok-problem.ensures.reading told w)))
-
-pub returns-in-Read-clause-reads_only : goal.returns-in-Read-clause-reads_only
-returns-in-Read-clause-reads_only g c = λ files w.
-    both-read (in_intuitionistic (the_intuitionistic_file c.args.file)) c.args.derivation.now files c.in_ok-problem.ensures.reads_on c.transfer_derivation.ensures.reads_on c.in_ok-problem.ensures.reads_only c.transfer_derivation.ensures.reads_only w
-
-pub returns-in-Refused-clause-reads_only : goal.returns-in-Refused-clause-reads_only
-returns-in-Refused-clause-reads_only g c = λ files w. first-alone (in_intuitionistic (the_intuitionistic_file c.args.file)) c.args.derivation.now files (c.in_ok-problem.ensures.reads_only files w)
-
-pub returns-in_err-problem-clause-reads_only : goal.returns-in_err-problem-clause-reads_only
-returns-in_err-problem-clause-reads_only g c = λ files w. first-alone (in_intuitionistic (the_intuitionistic_file c.args.file)) c.args.derivation.now files (c.in_err-problem.ensures.reads_only files w)
+pub returns-in-Err-Rejected-clause-counted : goal.returns-in-Err-Rejected-clause-counted
+returns-in-Err-Rejected-clause-counted c = λ m n f g after.
+    line-counted m n f g after (Rejected c.in-Err-Rejected.line c.in-Err-Rejected.fault) c.line_reply.result c.line_reply.ensures.same tt
