@@ -197,7 +197,7 @@ const STEPS: &[(Logic, Domains, &[u8], u64, End, u64)] = &[
         b"(*(q => p) & *(#dia:p => q) & * #dia:p) => #box:p",
         1000,
         End::Closed(3),
-        15,
+        11,
     ),
     (
         Logic::S4,

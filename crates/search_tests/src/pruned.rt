@@ -229,3 +229,50 @@ fn answers_do_not_change(rt: HostRuntime) -> Result<(), Fail> {
     assert!(rt; seen.ended > 300 && seen.shorter > 30);
     Ok(())
 }
+
+// The goal w(X) fails below s.
+const CLAUSES: &[&[u8]] = &[
+    b"(![X]:(n(f(X))=>s))",
+    b"(![X]:(n(f(X))=>n(X)))",
+    b"(![X]:(w(X)=>s))",
+    b"(![X,Y]:((u(X,Y)&v(Y))=>w(X)))",
+    b"u(a,b)",
+    b"u(a,c)",
+    b"u(b,c)",
+    b"v(d)",
+];
+
+// So it does here.
+const AGAIN: &[u8] = b"(![X]:((w(X)&u(a,b))=>s))";
+
+fn implied(alloc: Global, more: &[u8]) -> Result<Vec<u8>, NoMemory> {
+    let mut text = Vec::new(alloc);
+    text.push(b'(')?;
+    for clause in CLAUSES {
+        text.extend_from_slice(*clause)?;
+        text.push(b'&')?;
+    }
+    text.extend_from_slice(more)?;
+    text.extend_from_slice(b")=>s")?;
+    Ok(text)
+}
+
+// The search at limit 4.
+fn searched_with(alloc: Global, more: &[u8], pruning: Pruning) -> Result<(End, u64), Fail> {
+    let text = implied(alloc, more)?;
+    let problem = proving(alloc, Logic::Classical, Domains::Constant, text.as_slice())?;
+    let matrix = build_matrix(alloc, &problem)?;
+    let limit = PathLimit { number: 4 };
+    let found = searched(alloc, &problem, &matrix, limit, pruning)?;
+    Ok(found)
+}
+
+#[test]
+fn goals_that_failed_are_not_tried_again(rt: HostRuntime) -> Result<(), Fail> {
+    let alloc = rt.alloc();
+    let once = searched_with(alloc, b"v(d)", Pruning::all())?;
+    let twice = searched_with(alloc, AGAIN, Pruning::all())?;
+    assert!(rt; once.0 == End::Left && twice.0 == End::Left);
+    assert!(rt; twice.1 <= once.1);
+    Ok(())
+}

@@ -1,5 +1,5 @@
-//! The tests of the canonical texts and of their judgement, over the built libraries: a crate with
-//! tests of its own is proved twice.
+//! The tests of the canonical texts, in both versions of a derivation, and of their judgement, over the
+//! built libraries: a crate with tests of its own is proved twice.
 #![tactic(auto)]
 
 #[cfg(test)]
@@ -16,3 +16,5 @@ mod judging;
 mod stepping;
 #[cfg(test)]
 mod terms;
+#[cfg(test)]
+mod versions;

@@ -1,5 +1,5 @@
 use Rattle.std.proofs.Common.{◌≤◌, ◌-◌, length}
-use Rattle.base_tests.proofs.tokens.marks.Given as goal
+use Rattle.reader_tests.proofs.tokens.marks.Given as goal
 
 abbrev pub invariant-loop-token : goal.invariant-loop-token
 invariant-loop-token l = l.from ≤ length l.text

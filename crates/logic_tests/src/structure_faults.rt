@@ -1,6 +1,6 @@
 //! One text for each fault and each condition.
 
-use crate::helpers::{judged_by, rejected_at, text_with};
+use crate::structure_helpers::{judged_by, rejected_at, text_with};
 use cop_base::NoMemory;
 use finite_model::{Judged, StructureCause};
 use logic_rules::{Domains, Logic, Problem};

@@ -1,5 +1,0 @@
-//! Tests of both versions.
-#![tactic(auto)]
-
-#[cfg(test)]
-mod versions;
