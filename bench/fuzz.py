@@ -1,7 +1,7 @@
 #!/usr/bin/env python3
 """bench/fuzz.py [options]
 Alters problems, derivations, tableaux, structures and words, and runs the built program on them. Each run is to end with a status
-of docs/FORMATS.md and what belongs to it, within time and memory that are linear in the input, and a second one in the same way;
+of docs/COMMANDS.md and what belongs to it, within time and memory that are linear in the input, and a second one in the same way;
 a derivation or a tableau that is printed is to be accepted. What breaks is kept, with all that is needed to run it again.
   --program=FILE   the program (crates/leancop/out/leancop, which ./leancop builds)
   --seed=N         the number that all is drawn from (1): the same one gives the same cases

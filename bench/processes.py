@@ -23,7 +23,7 @@ class Run(NamedTuple):
     kilobytes: int
 
 
-# What a run may write, by its exit status (docs/FORMATS.md).
+# What a run may write, by its exit status (docs/COMMANDS.md).
 PRINTED = r"leancop (derivation [12]|tableau 1)\nlogic [^\n]*\nformula [^\n]*\nlimit \d+\n(?s:.*\n)?end\n"
 MADE = r"made (chain|shift|tower) \d+: \d+ bytes\n"
 CAUSE = "(syntax|unsupported|reserved word|wrong language|second conjecture|unknown role|include too deep|include name absent|no formula)"

@@ -144,7 +144,7 @@ def read_table() -> tuple[dict[tuple[str, str], tuple[str, Run]], TextIO | None]
 
 def solve(problems: list[Problem]) -> None:
     provers = [("leancop", prove)] + ([("prolog", prove_in_prolog)] if "baseline" in options and HAS_PROLOG else [])
-    seen = {name: [] for name, _ in provers}
+    seen: dict[str, list[tuple[Problem, str, Run]]] = {name: [] for name, _ in provers}
     known, table = read_table()
 
     def answers_of(problem: Problem) -> list[tuple[str, Run]]:
@@ -161,10 +161,10 @@ def solve(problems: list[Problem]) -> None:
             print(line, flush=True)
     print("\n| prover | solved of %d in %s s | exhausted or steps ended | out of time | refused | other | wrong |" % (len(problems), ", ".join("%g" % t for t in TIMES)))
     print("|---|---|---|---|---|---|---|")
-    for name, answers in seen.items():
-        solved = ", ".join(str(sum(is_right(p, a) and g.seconds <= t for p, a, g in answers)) for t in TIMES)
-        counts = [sum(a == letter for _, a, _ in answers) for letter in "x.r?"]
-        print("| %s | %s | %d | %d | %d | %d | %d |" % (name, solved, *counts, sum(is_wrong(p, a) for p, a, _ in answers)))
+    for name, rows in seen.items():
+        solved = ", ".join(str(sum(is_right(p, a) and g.seconds <= t for p, a, g in rows)) for t in TIMES)
+        counts: list[int] = [sum(a == letter for _, a, _ in rows) for letter in "x.r?"]
+        print("| %s |" % " | ".join([name, solved, *map(str, counts), str(sum(is_wrong(p, a) for p, a, _ in rows))]))
 
 
 def show(form: str, x: float | None) -> str:

@@ -44,6 +44,7 @@ class Family:
     answer: str | tuple[str, ...]
     worth: Callable[[int], int] | None = None  # where it is not the number of bytes
     is_known: bool = True  # that it does not hold
+    is_written: bool = False  # what is written is worth as much as what is read
 
 
 # Formulas in their canonical texts, so that the problem and the second file have the same one.
@@ -132,13 +133,11 @@ FORK = 480
 
 
 def forks(n: int) -> Texts:
-    links = ["(p => " * FORK + f"(q{k} => q{k + 1})" + ")" * FORK for k in range(n)]
+    links = ["(" * FORK + f"(q{k} => q{k + 1})" + " | ~p)" * FORK for k in range(n)]
     units = ["p", "q0", *links]
     sides = ["l" + sides_of(k, len(units)) for k in range(len(units))]
-    lines = ["start r {}"]
-    for k in reversed(range(n)):
-        lines += [f"extend {FORK + 1} {sides[k + 2]} {{}}"] + [f"extend 0 {sides[0]} {{}}"] * FORK
-    return tableau(f"({balanced('&', units)} => q{n})", [*lines, f"extend 0 {sides[1]} {{}}"])
+    lines = ["start r {}", *(f"extend 1 {sides[k + 2]} {{}}" for k in reversed(range(n))), f"extend 0 {sides[1]} {{}}"]
+    return tableau(f"({balanced('&', units)} => q{n})", lines + [f"extend 0 {sides[0]} {{}}"] * (n * FORK))
 
 
 def closed_often(formula: str, lines: list[str], fork: int, axiom: str, n: int) -> Texts:
@@ -203,13 +202,13 @@ FAMILIES = [
     Family("table-label", "a label of n characters that is used n times",
            1000, ["check", *JUDGED, S4], label_again, ACCEPTED, is_known=False),
     Family("table-term", "a term of n names in n branches",
-           500, ["check", *JUDGED], comb, ACCEPTED),
+           500, ["check", *JUDGED], comb, ACCEPTED, is_known=False),
     Family("prefixes-implications", "implications n deep as axiom and conjecture, ten steps",
            15, ["prove", "m.p", INTUITIONISTIC, "--steps=10", "--limit=1"], implications, ("leancop derivation", "steps ended"), lambda n: n * n),
     Family("prefixes-boxes", "n pairs of a box and a diamond before n literals, one step",
            15, ["prove", "m.p", S4, "--steps=1"], boxes_and_diamonds, ("steps ended", "no tableau"), lambda n: n * n),
-    Family("forks", "n clauses of 482 literals, each below the forks of the one before",
-           6, ["convert", *JUDGED], forks, "leancop derivation"),
+    Family("forks", "n clauses of 482 literals, each below all forks of the one before, the worth being also what is written",
+           6, ["convert", *JUDGED], forks, "leancop derivation", is_known=False, is_written=True),
     Family("axioms-ground", "two equal ground atoms of n symbols, n axioms",
            1000, ["check", *JUDGED], ground_atoms, ACCEPTED),
     Family("axioms-variable", "a variable for which a term of n symbols is put, and that term, n axioms",
@@ -222,8 +221,8 @@ FAMILIES = [
            1024, ["model", *JUDGED], closed_terms, "true at the root"),
     Family("structure-room", "n symbols, and a structure of 64 worlds that is wrong at line 5",
            2000, ["model", *JUDGED, S4], many_symbols, "rejected structure at line 5: line"),
-    Family("tableau-values", "n pairs of quantifiers before both sides, the worth being what is written",
-           1, ["tableau", "m.p"], pairs_of_quantifiers, "leancop tableau", is_known=False),
+    Family("tableau-values", "n pairs of quantifiers before both sides, the worth being also what is written",
+           1, ["tableau", "m.p"], pairs_of_quantifiers, "leancop tableau", is_known=False, is_written=True),
     Family("second-file", "a second file of n thousand bytes",
            1000, ["check", *JUDGED], lambda n: second_file(1000 * n), "rejected at line 1: version", is_known=False),
 ]
@@ -265,7 +264,7 @@ def points(family: Family, program: str, runner: Runner, count: int) -> Iterator
             got = min([got, *(runner.run([program, *family.words]) for _ in range(2))], key=lambda one: one.seconds)
         length = sum(map(len, texts.values()))
         worth = length if family.worth is None else family.worth(size)
-        if family.name == "tableau-values":
+        if family.is_written:
             worth += len(got.output)
         told = told_of(family, got)
         yield Point(size, length, worth, got.seconds, got.kilobytes / 1024, told)

@@ -178,7 +178,7 @@ def symbols(f: Formula, functions: dict[tuple[str, int], None], predicates: dict
     return any([f[0] == "equal"] + [symbols(x, functions, predicates) for x in parts])
 
 
-def equality_axioms(functions: Iterable[tuple[str, int]], predicates: Iterable[tuple[str, int]]) -> Iterator[Formula]:
+def equality_axioms(functions: Iterable[tuple[str | None, int]], predicates: Iterable[tuple[str | None, int]]) -> Iterator[Formula]:
     x = [("var", "X%d" % i) for i in range(1, 1 + max([3] + [2 * n for _, n in [*functions, *predicates]]))]
 
     def closed(n: int, formula: Formula) -> Formula:

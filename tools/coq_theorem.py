@@ -213,7 +213,7 @@ class Symbols:
         yield "Variable anything : U. (* there is something *)"
         for (kind, name, arity), coq in self.coq.items():
             if coq not in ("True", "anything", "@eq U"):
-                note = "" if coq[2:] == name else " (* %s *)" % re.sub(r"[^A-Za-z0-9_=$ ]", "?", name.strip("'"))
+                note = "" if coq[2:] == name else " (* %s *)" % re.sub(r"[^A-Za-z0-9_=$ ]", "?", (name or "").strip("'"))
                 yield "Variable %s : %s%s.%s" % (coq, "U -> " * arity, "U" if kind == "fun" else "Prop", note)
 
     def table(self) -> Iterator[str]:

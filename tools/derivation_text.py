@@ -76,7 +76,9 @@ def in_version_one(lines: list[str]) -> list[str]:
     """The lines of a derivation, with labels and terms in place of the numbers that version 2 has."""
     if lines[0] == "leancop derivation 1":
         return lines
-    labels, terms, out = {}, {}, []
+    labels: dict[str, str] = {}
+    terms: dict[str, str] = {}
+    out = []
     for line in lines:
         words = line.split(" ")
         if words[0] in ("label", "term"):

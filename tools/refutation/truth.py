@@ -243,7 +243,7 @@ class Truth(Structure):
                    for there, elements in zip(itertools.product(*wide), itertools.product(*([d for _, d in part] for part in parts)))
                    if not known.elements or max(elements) >= known.elements]
         if clauses:
-            self.add_rows([own, *map(list, zip(*clauses))])
+            self.add_rows([own, *[list(column) for column in zip(*clauses)]])
 
 
 def parts_of(node: Formula, width: int, sign: int) -> list[tuple[int, Elements, int]]:

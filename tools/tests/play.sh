@@ -2,6 +2,7 @@
 # tools/leancop-play: formulas of books, the server by requests, exercises over the gallery, and the page in a browser.
 
 # Three parts take their time, and go on beside one another.
+player='' # that of another part may have this name
 begin exercises timeout 300 python3 tools/tests/play_exercise.py "$LEANCOP" 20
 begin server timeout 300 python3 tools/tests/play_server.py
 if command -v node >/dev/null && command -v chromium >/dev/null; then

@@ -75,7 +75,7 @@ def over_the_gallery() -> int:
     return count
 
 
-FAULTS = [  # problem, options, steps, the last of which is wrong, the program's fault, and words of what is said
+FAULTS: list[tuple[str, list[str], list[str], str, str]] = [  # problem, options, steps, the last of which is wrong, the program's fault, and words of what is said
     ("examples/drinker.p", [], ["use 2"], "no entry", "the entries 1 to 1"),
     ("examples/drinker.p", [], ["axiom 1 1"], "no connection", "Entry 1 is no atom"),
     ("examples/drinker.p", [], ["use 1"], "wrong arguments", "takes a term"),

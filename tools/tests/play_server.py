@@ -31,6 +31,7 @@ class Played:
         self.folder = tempfile.mkdtemp()
         self.process = subprocess.Popen(["tools/leancop-play", "--no-browser", "--port=0"], stdout=subprocess.PIPE, text=True,
                                         env={**os.environ, "TMPDIR": self.folder})
+        assert self.process.stdout is not None
         link = self.process.stdout.readline().split()[1]
         self.port, self.token = link.split("/")[2].rpartition(":")[2], link.split("/")[3]
         self.host = f"127.0.0.1:{self.port}"
@@ -136,9 +137,10 @@ def questions(s: Played) -> bool:
         same(f"an include: {text}", (fault["kind"], "reads no files" in fault["said"]), ("misread", True))
     same("sizes", ["refused" in s.ask("ask", "p" * 300_000)[0], s.ask("ask", "(" * 400)[-1]["kind"], s.ask("ask", "¬" * 400 + "p")[-1]["kind"]],
          [True, "misread", "misread"])
-    same("an unknown logic, time, command", ["refused" in s.ask(*q)[0] if isinstance(q, tuple) else "refused" in s.post("start", q) for q in (
+    wrong_ones: list[dict[str, Any]] = [
         {"what": "ask", "formula": "p", "logic": "--root=/"}, {"what": "ask", "formula": "p", "seconds": 10**9}, {"what": "rm", "formula": "p"},
-        {"what": "exercise", "formula": "p", "steps": ["use 1\nuse 1"]})], [True] * 4)
+        {"what": "exercise", "formula": "p", "steps": ["use 1\nuse 1"]}]
+    same("an unknown logic, time, command", ["refused" in s.post("start", asked) for asked in wrong_ones], [True] * 4)
     began = time.monotonic()
     last = s.ask("ask", ENDLESS, seconds=3)[-1]
     same("the time is kept", (last["kind"], time.monotonic() - began < 6), ("unknown", True))
@@ -168,7 +170,7 @@ def ends(s: Played) -> None:
     same("another tab meanwhile", other["kind"], "proof")
     s.post("stop", {"job": job})
     began = time.monotonic()
-    state = {"over": False, "events": []}
+    state: dict[str, Any] = {"over": False, "events": []}
     while not state["over"]:
         state = s.post("state", {"job": job, "seen": 1})
     same("it is stopped", (state["events"][-1]["kind"], time.monotonic() - began < 3), ("stopped", True))
