@@ -10,6 +10,7 @@ import os
 import sys
 from collections.abc import Callable
 from ctypes import POINTER, byref, c_char_p, c_size_t, c_uint32, c_uint64
+from typing import Any
 
 
 class Judgement(ctypes.Structure):
@@ -34,10 +35,11 @@ class Leancop:
     def __init__(self, path: str) -> None:
         library = ctypes.CDLL(os.path.abspath(path))
         self._check, self._formula, self._run = library.leancop_check, library.leancop_formula, library.leancop_run
-        text, room = [c_char_p, c_size_t], [c_char_p, c_size_t, POINTER(c_uint64)]
+        text: list[Any] = [c_char_p, c_size_t]
+        room: list[Any] = [c_char_p, c_size_t, POINTER(c_uint64)]
         self._check.argtypes = [c_uint32, c_uint32] + text + text + [POINTER(Judgement)]
         self._formula.argtypes = [c_uint32, c_uint32] + text + room
-        self._run.argtypes = [POINTER(Bytes), c_size_t, POINTER(File), c_size_t] + room
+        self._run.argtypes = [POINTER(Bytes), c_size_t, POINTER(File), c_size_t, *room]
         self._check.restype, self._formula.restype, self._run.restype = None, c_uint32, c_uint32
         self._fault_name, self._cause_name = library.leancop_fault_name, library.leancop_cause_name
         for call in self._fault_name, self._cause_name:

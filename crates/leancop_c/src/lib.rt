@@ -97,9 +97,9 @@ pub extern "C" fn leancop_check(
 /// The version: 1,000,000 times the first number, 1,000 times the second, and the third.
 #[unsafe(no_mangle)]
 pub extern "C" fn leancop_version() -> u32
-    ensures { result ≡ 2000 }
+    ensures { result ≡ 1000000 }
 {
-    2000
+    1000000
 }
 
 /// The words that the program prints for the fault with this number.
