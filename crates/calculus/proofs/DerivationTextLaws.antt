@@ -3,11 +3,14 @@ use Rattle.std.proofs.Common.{◌≡◌, ℕ, ◌^◌, List, [], ◌∷◌, ◌+
 use Rattle.std.specs.List.{list_all}
 use Rattle.std.proofs.lemmas.Bool.{and_parts}
 use Rattle.plain_laws.proofs.Places.{differ-at}
+use Rattle.calculus.specs.declared.version.Version.TheVariants.{One}
 use Rattle.calculus.specs.Syntax.{Symbol, Problem}
 use Rattle.calculus.specs.Derivations.{Label, Home, anywhere, home_at, EigenName, SpareName, ModalArg, no_modal, to, by_new, TermArg, no_term, by_term, by_name, Step, apply_to, close, Derivation}
 use Rattle.calculus.specs.Text.{Ends, is_number, label_text, formula_text}
-use Rattle.calculus.specs.DerivationText.{setting_text, eigen_text, home_text, eigen_line, spare_line, modal_text, term_arg_text, step_line, head_lines, line_bytes, derivation_text, label_is_written, home_is_written, modal_is_written, term_arg_is_written, step_is_written, rises_from, names_are_written, is_limit, is_printable, IsText}
+use Rattle.calculus.specs.DerivationText.{setting_text, eigen_text, home_text, eigen_line, spare_line, modal_text, term_arg_text, step_line, head_lines, label_is_written, home_is_written, modal_is_written, term_arg_is_written, step_is_written, rises_from, names_are_written, is_limit, is_printable}
 use Rattle.calculus.specs.Problems.{are_distinct}
+use Rattle.calculus.specs.FirstWrong.{line_bytes}
+use Rattle.calculus.specs.Versions.{text_in, IsTextIn}
 use Rattle.calculus.proofs.TextLaws.{cons-tail, decimal-split}
 use Rattle.calculus.proofs.TermTextLaws.{ends-digit, small-number, number-split, term-split, label-split}
 
@@ -153,7 +156,7 @@ spares_tail S ss xs = lines_on (map spare_line ss) (steps_tail S xs)
 abbrev eigens_tail : List Symbol → List EigenName → List SpareName → List Step → List ℕ
 eigens_tail S es ss xs = lines_on (map eigen_line es) (spares_tail S ss xs)
 
-text-tails : (P : Problem) (d : Derivation) → derivation_text P d ≡ lines_on (head_lines P d.limit) (eigens_tail P.symbols d.names.eigens d.names.spares d.steps)
+text-tails : (P : Problem) (d : Derivation) → text_in One P d ≡ lines_on (head_lines P d.limit) (eigens_tail P.symbols d.names.eigens d.names.spares d.steps)
 text-tails P d =
     let head = head_lines P d.limit in
     let es = map eigen_line d.names.eigens in
@@ -253,7 +256,7 @@ printable-parts P d h =
     let x = and_parts (rises_from 0 (map (λ (x : EigenName). x.number) d.names.eigens)) (list_all eigen_is_written d.names.eigens) y.0 in
     record { limit = a.0; eigens = x.1; spares = z.1; steps = b.1 }
 
-pub text-unique : (P : Problem) → IsTrue (are_distinct P.symbols) → (d e : Derivation) (bytes : List ℕ) → IsText P d bytes → IsText P e bytes → d ≡ e
+pub text-unique : (P : Problem) → IsTrue (are_distinct P.symbols) → (d e : Derivation) (bytes : List ℕ) → IsTextIn One P d bytes → IsTextIn One P e bytes → d ≡ e
 text-unique P distinct d e bytes t u =
     let S = P.symbols in
     let p = printable-parts P d t.printable in

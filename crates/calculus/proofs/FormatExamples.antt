@@ -16,13 +16,14 @@ use Rattle.calculus.specs.declared.setting.Domains.TheVariants.{Constant}
 use Rattle.calculus.specs.Syntax.{var, eigen, spare, no_terms, more_terms, Term, Formula, atom, neg, disj, imp, all, ex, box, dia, setting_of, Problem}
 use Rattle.calculus.specs.Ground.{Marks, Value, g_eigen, common, g_spare_mark, no_marks, more_marks, term, steps, no_values, more_values}
 use Rattle.calculus.specs.Derivations.{spare_mark, anywhere, EigenName, no_modal, to, no_term, by_term, by_name, Step, apply_to, close, Derivation}
+use Rattle.calculus.specs.FirstWrong.{text_of}
 use Rattle.calculus.specs.Judgement.{accepted, rejected}
 use Rattle.calculus.specs.Versions.{NumberedStep, no_numbered_modal, no_numbered_term, by_number, by_eigen, numbered_use, numbered_axiom, NumberedDerivation, is_written, stated, text_in}
 use Rattle.calculus.specs.VersionJudgement.{first_difference, verdict_in}
 use Rattle.calculus.specs.Structures.{Structure, truth_tables}
-use Rattle.calculus.specs.StructureText.{structure_text, structure_verdict, true_at_root, false_at_root, bad_structure}
+use Rattle.calculus.specs.StructureText.{structure_texts, structure_verdict, true_at_root, false_at_root, bad_structure}
 use Rattle.calculus.specs.StructureTruth.{ways}
-use Rattle.calculus.specs.TableauText.{Chosen, Move, reduction, extension, Moves, moves_text, tableau_verdict, tableau_accepted, tableau_rejected}
+use Rattle.calculus.specs.TableauText.{Chosen, Move, reduction, extension, Moves, moves_texts, tableau_verdict, tableau_accepted, tableau_rejected}
 use Rattle.calculus.specs.Families.{family_text}
 
 p : Formula
@@ -117,7 +118,7 @@ atomic = problem Classical p (codes "p") 0
 one_world : Bool → Structure
 one_world b = record { elements = 1; successors = (0 ∷ []) ∷ []; domains = (0 ∷ []) ∷ []; meanings = truth_tables ((b ∷ []) ∷ []) ∷ [] }
 
-one_world_text : structure_text atomic (one_world false) ≡ codes "leancop structure 1\nlogic classical\nworlds 1\nelements 1\nrelation 1 1\ndomain 1 1\npredicate p 0 1 0\nend\n"
+one_world_text : text_of (structure_texts atomic) (one_world false) ≡ codes "leancop structure 1\nlogic classical\nworlds 1\nelements 1\nrelation 1 1\ndomain 1 1\npredicate p 0 1 0\nend\n"
 unfolding atomic one_world problem p digits
 one_world_text = refl
 
@@ -162,7 +163,7 @@ moves d i ms = record { limit = d; start = i; moves = ms }
 identity_moves : List Move → Moves
 identity_moves ms = moves 1 (chosen (Right ∷ []) []) ms
 
-identity_tableau : moves_text identity (identity_moves (extension 0 (chosen (Left ∷ []) []) ∷ [])) ≡ codes "leancop tableau 1\nlogic classical\nformula (p => p)\nlimit 1\nstart r {}\nextend 0 l {}\nend\n"
+identity_tableau : text_of (moves_texts identity) (identity_moves (extension 0 (chosen (Left ∷ []) []) ∷ [])) ≡ codes "leancop tableau 1\nlogic classical\nformula (p => p)\nlimit 1\nstart r {}\nextend 0 l {}\nend\n"
 unfolding identity identity_moves moves chosen problem p digits
 identity_tableau = refl
 
@@ -197,7 +198,7 @@ start_of_sign_t = refl
 drinker_moves : ℕ → Moves
 drinker_moves position = moves 1 (chosen (Right ∷ []) (term (common 1) ∷ [])) (extension 0 (chosen (Left ∷ []) (term (g_eigen position (more_values (term (common 1)) no_values)) ∷ [])) ∷ [])
 
-drinker_tableau : moves_text drinker (drinker_moves 1) ≡ codes "leancop tableau 1\nlogic classical\nformula ?[X1]:![X2]:(d(X1) => d(X2))\nlimit 1\nstart r {$$s1}\nextend 0 l {$$e1{$$s1}}\nend\n"
+drinker_tableau : text_of (moves_texts drinker) (drinker_moves 1) ≡ codes "leancop tableau 1\nlogic classical\nformula ?[X1]:![X2]:(d(X1) => d(X2))\nlimit 1\nstart r {$$s1}\nextend 0 l {$$e1{$$s1}}\nend\n"
 unfolding drinker drinker_moves moves chosen problem d_of digits
 drinker_tableau = refl
 

@@ -52,7 +52,7 @@ pub mod TextLaws
 pub mod TermTextLaws
 pub mod ReadingLaws
 pub mod DerivationTextLaws
-pub mod JudgementLaws
+pub mod FirstWrongLaws
 -- places in lists
 pub mod PlaceLists
 -- soundness: in structures of any size, of which finite ones are a case

@@ -13,11 +13,11 @@ use Rattle.calculus.proofs.SoundnessLaws.{refuted-underived, refuted-never_accep
 
 -- a structure that a text states, and of which no condition is broken
 pub read-structure : (P : Problem) (S : Structure) (bytes : List ℕ) → IsStructureText P S bytes → first_broken (conditions P S) ≡ None → IsTrue (is_structure P S)
-read-structure P S bytes text unbroken = (unbroken-structure P S text.stated).0 unbroken
+read-structure P S bytes text unbroken = (unbroken-structure P S text.printable).0 unbroken
 
 -- and its verdict is the truth of the formula at the root
 pub structure-verdict : (P : Problem) (S : Structure) (bytes : List ℕ) → IsStructureText P S bytes → IsTrue (is_structure P S) → structure_verdict P S ≡ truth_verdict (is_true P S)
-structure-verdict P S bytes text structure = ap (verdict_after_conditions P S) ((unbroken-structure P S text.stated).1 structure)
+structure-verdict P S bytes text structure = ap (verdict_after_conditions P S) ((unbroken-structure P S text.printable).1 structure)
 
 -- the structure that bytes state, where their judgement is a truth value
 pub record IsRead (P : Problem) (bytes : List ℕ) (truth : Bool) : Type 0 where
@@ -46,16 +46,16 @@ truth-same false true e = absurd (true≢false (ap is_false e))
 
 pub judged-read : (P : Problem) (bytes : List ℕ) (truth : Bool) → IsStructureJudgement P bytes (truth_verdict truth) → IsRead P bytes truth
 judged-read P bytes truth (inl wrong) = absurd (false≢true (sym (truth-good truth) ∙ ap is_bad wrong.verdict))
-judged-read P bytes truth (inr x) = by (first_broken (conditions P x.structure)) refl x.verdict
+judged-read P bytes truth (inr x) = by (first_broken (conditions P x.value)) refl x.verdict
   where
-    by : (o : Option Condition) → first_broken (conditions P x.structure) ≡ o → truth_verdict truth ≡ verdict_after_conditions P x.structure (first_broken (conditions P x.structure)) → IsRead P bytes truth
+    by : (o : Option Condition) → first_broken (conditions P x.value) ≡ o → truth_verdict truth ≡ verdict_after_conditions P x.value (first_broken (conditions P x.value)) → IsRead P bytes truth
     by None e v = record {
-      structure = x.structure;
+      structure = x.value;
       text = x.text;
-      fits = read-structure P x.structure bytes x.text e;
-      value = sym (truth-same truth (is_true P x.structure) (v ∙ ap (verdict_after_conditions P x.structure) e));
+      fits = read-structure P x.value bytes x.text e;
+      value = sym (truth-same truth (is_true P x.value) (v ∙ ap (verdict_after_conditions P x.value) e));
     }
-    by (Some c) e v = absurd (false≢true (sym (truth-good truth) ∙ ap is_bad (v ∙ ap (verdict_after_conditions P x.structure) e)))
+    by (Some c) e v = absurd (false≢true (sym (truth-good truth) ∙ ap is_bad (v ∙ ap (verdict_after_conditions P x.value) e)))
 
 -- ---- what false at the root proves
 

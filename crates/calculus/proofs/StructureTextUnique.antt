@@ -1,19 +1,19 @@
 -- A structure's text states one structure, and bytes have at most one judgement as a structure of a problem.
-use Rattle.std.proofs.Common.{◌≡◌, ℕ, suc, pred, ◌+◌, ◌^◌, ◌<◌, ◌≤◌, List, [], ◌∷◌, ◌++◌, length, map, Bool, true, false, not, ◌&&◌, ◌==◌, IsTrue, refl, sym, ◌∙◌, ap, append_assoc, decimal, codes, flat_map, nat_le, nat_lt, lt_of_le_of_lt, lit<, ltb-true, leb-true, eqb-true, inl, inr, arith}
+use Rattle.std.proofs.Common.{◌≡◌, ℕ, suc, pred, ◌+◌, ◌^◌, ◌<◌, ◌≤◌, List, [], ◌∷◌, ◌++◌, length, map, Bool, true, false, not, ◌&&◌, ◌==◌, IsTrue, refl, sym, ◌∙◌, ap, append_assoc, decimal, codes, flat_map, nat_le, nat_lt, lt_of_le_of_lt, lit<, ltb-true, leb-true, eqb-true, arith}
 use Rattle.std.specs.Bool.{⊤}
 use Rattle.std.specs.List.{list_all}
-use Rattle.std.proofs.lemmas.Bool.{cases_order, true≢false, and_parts}
+use Rattle.std.proofs.lemmas.Bool.{true≢false, and_parts}
 use Rattle.plain_laws.proofs.Places.{differ-at}
 use Rattle.calculus.specs.Syntax.{Symbol, Problem}
 use Rattle.calculus.specs.Skolem.{is_function}
 use Rattle.calculus.specs.Text.{is_digit, StopsAt}
-use Rattle.calculus.specs.DerivationText.{setting_text, line_bytes}
-use Rattle.calculus.specs.Judgement.{whole_lines}
+use Rattle.calculus.specs.DerivationText.{setting_text}
+use Rattle.calculus.specs.FirstWrong.{line_bytes, text_of}
 use Rattle.calculus.specs.Structures.{Meaning, Structure, value_table, truth_tables, is_table, are_tables, is_in_range}
-use Rattle.calculus.specs.StructureText.{numbers_text, world_lines, symbol_head, function_lines, bit_text, row_lines, predicate_lines, structure_head, structure_lines, structure_text, is_size, fits_table, rises, can_be_stated, IsStructureText, IsStructureRight, IsStructureFaulty, StructureVerdict, bad_structure, structure_verdict, structure_cause_at, IsStructureJudgement}
+use Rattle.calculus.specs.StructureText.{numbers_text, world_lines, symbol_head, function_lines, bit_text, row_lines, predicate_lines, structure_head, is_size, fits_table, rises, can_be_stated, structure_texts, IsStructureText, structure_causes, StructureVerdict, bad_structure, structure_verdict, IsStructureJudgement}
 use Rattle.calculus.proofs.TextLaws.{cons-tail, decimal-split}
 use Rattle.calculus.proofs.DerivationTextLaws.{lines_on, lines_on-append, end_text, cancel}
-use Rattle.calculus.proofs.JudgementLaws.{take-less}
+use Rattle.calculus.proofs.FirstWrongLaws.{text-verdict-unique}
 
 -- ---- lists of numbers
 
@@ -154,7 +154,7 @@ predicates-split S T same (z ∷ ss) (truth_tables a ∷ ms) (value_table b ∷ 
 
 -- ---- the whole text
 
-structure-parts : (P : Problem) (S : Structure) → structure_text P S ≡ lines_on (structure_head P S) (lines_on (world_lines (codes "relation ") 0 S.successors) (lines_on (world_lines (codes "domain ") 0 S.domains) (lines_on (function_lines P.symbols S.meanings) (lines_on (predicate_lines P.symbols S.meanings) end_text))))
+structure-parts : (P : Problem) (S : Structure) → text_of (structure_texts P) S ≡ lines_on (structure_head P S) (lines_on (world_lines (codes "relation ") 0 S.successors) (lines_on (world_lines (codes "domain ") 0 S.domains) (lines_on (function_lines P.symbols S.meanings) (lines_on (predicate_lines P.symbols S.meanings) end_text))))
 structure-parts P S =
     let head = structure_head P S in
     let a = world_lines (codes "relation ") 0 S.successors in
@@ -208,8 +208,8 @@ head-split P S T r s p q e =
 -- a text states one structure
 pub structure_text-unique : (P : Problem) (S T : Structure) (bytes : List ℕ) → IsStructureText P S bytes → IsStructureText P T bytes → S ≡ T
 structure_text-unique P S T bytes t u =
-    let p = stated-parts P S t.stated in
-    let q = stated-parts P T u.stated in
+    let p = stated-parts P S t.printable in
+    let q = stated-parts P T u.printable in
     let head = head-split P S T _ _ p q (sym (structure-parts P S) ∙ sym t.text ∙ u.text ∙ structure-parts P T) in
     let a = worlds-split (length S.successors) p.size (codes "relation ") 0 S.successors T.successors _ _ head.0 p.relation (ap (λ n. list_all (λ vs. list_all (λ v. nat_lt v n) vs) T.successors) head.0 ∙ q.relation) head.2 in
     let b = worlds-split S.elements p.elements (codes "domain ") 0 S.domains T.domains _ _ (p.count ∙ head.0 ∙ sym q.count) p.domains (ap (λ n. list_all (λ vs. list_all (λ v. nat_lt v n) vs) T.domains) head.1 ∙ q.domains) a.1 in
@@ -217,26 +217,6 @@ structure_text-unique P S T bytes t u =
     let d = predicates-split S T head.0 P.symbols S.meanings T.meanings end_text end_text p.tables q.tables c.0 c.1 in
     λ i. record { elements = head.1 i; successors = a.0 i; domains = b.0 i; meanings = d.0 i }
 
--- ---- the judgement
-
-right-less : (P : Problem) (bytes : List ℕ) (k n : ℕ) → k ≤ n → IsStructureRight P bytes n → IsStructureRight P bytes k
-right-less P bytes k n le (S, r) =
-    let there = r.are_there in
-    let them = r.has_them in
-    (S, record { stated = r.stated; are_there = omega arith; has_them = omega arith; same = take-less k n (whole_lines bytes) (structure_lines P S) le r.same })
-
-pub structure_faulty-unique : (P : Problem) (bytes : List ℕ) (m n : ℕ) → IsStructureFaulty P bytes m → IsStructureFaulty P bytes n → m ≡ n
-structure_faulty-unique P bytes m n f g = elim (cases_order m n) [
-  | inl same ↦ same
-  | inr apart ↦ elim apart [
-    | inl less ↦ absurd (f.wrong (right-less P bytes (m + 1) n (omega arith) g.right))
-    | inr more ↦ absurd (g.wrong (right-less P bytes (n + 1) m (omega arith) f.right))
-  ]
-]
-
 -- bytes have at most one judgement
 pub structure_judgement-unique : (P : Problem) (bytes : List ℕ) (v w : StructureVerdict) → IsStructureJudgement P bytes v → IsStructureJudgement P bytes w → v ≡ w
-structure_judgement-unique P bytes v w (inl f) (inl g) = f.verdict ∙ ap (λ k. bad_structure (k + 1) (structure_cause_at bytes k)) (structure_faulty-unique P bytes f.right_lines g.right_lines f.faulty g.faulty) ∙ sym g.verdict
-structure_judgement-unique P bytes v w (inl f) (inr g) = absurd (f.faulty.no_text g.structure g.text)
-structure_judgement-unique P bytes v w (inr f) (inl g) = absurd (g.faulty.no_text f.structure f.text)
-structure_judgement-unique P bytes v w (inr f) (inr g) = f.verdict ∙ ap (structure_verdict P) (structure_text-unique P f.structure g.structure bytes f.text g.text) ∙ sym g.verdict
+structure_judgement-unique P bytes v w = text-verdict-unique (structure_texts P) structure_causes bad_structure (structure_verdict P) bytes (λ S T. structure_text-unique P S T bytes) v w

@@ -1,7 +1,7 @@
 -- A text states one list of moves, so it is the text of one closed tableau with one limit, and bytes have at most one judgement.
-use Rattle.std.proofs.Common.{◌≡◌, ℕ, ◌+◌, ◌≤◌, List, [], ◌∷◌, ◌++◌, length, map, Bool, true, false, ◌&&◌, Result, Ok, Err, IsTrue, refl, sym, ◌∙◌, ap, subst, append_assoc, inl, inr, arith, decimal, codes, flat_map, slice_get, remove, nat_lt}
+use Rattle.std.proofs.Common.{◌≡◌, ℕ, ◌+◌, List, [], ◌∷◌, ◌++◌, length, map, Bool, true, false, ◌&&◌, Result, Ok, Err, IsTrue, refl, sym, ◌∙◌, ap, subst, append_assoc, inl, inr, decimal, codes, flat_map, slice_get, remove, nat_lt}
 use Rattle.std.specs.List.{list_all}
-use Rattle.std.proofs.lemmas.Bool.{true≢false, false≢true, cases_order, and_parts, and_from}
+use Rattle.std.proofs.lemmas.Bool.{true≢false, false≢true, and_parts, and_from}
 use Rattle.std.proofs.lemmas.List.Folds.{list_all-append}
 use Rattle.plain_laws.proofs.Places.{differ-at}
 use Rattle.calculus.proofs.SpotLaws.{values_list-tree}
@@ -13,16 +13,16 @@ use Rattle.calculus.specs.Syntax.{Symbol, Problem}
 use Rattle.calculus.specs.Problems.{are_distinct}
 use Rattle.calculus.specs.Ground.{Value, values_list, values_tree, GroundLiteral}
 use Rattle.calculus.specs.Text.{is_number, formula_text}
-use Rattle.calculus.specs.DerivationText.{setting_text, line_bytes, is_limit}
-use Rattle.calculus.specs.Judgement.{whole_lines}
+use Rattle.calculus.specs.DerivationText.{setting_text, is_limit}
+use Rattle.calculus.specs.FirstWrong.{line_bytes, text_of}
 use Rattle.calculus.specs.Instances.{ClauseInstance}
 use Rattle.calculus.specs.ComputedInstances.{is_instance, is_allowed_instance}
 use Rattle.calculus.specs.Tableaux.{Closing, Closings, reduce, extend, no_closings, more_closings, Tableau, is_complement, is_new_on, is_shown, is_short, closes, closes_all, instances_below, instances_of_all, instances, is_closed}
-use Rattle.calculus.specs.TableauText.{value_is_written, values_are_written, values_text, Chosen, Move, reduction, extension, Moves, side_text, sides_text, chosen_text, move_line, tableau_head, moves_lines, moves_text, chosen_is_written, move_is_written, IsMovesText, chosen_of, moves_of, moves_of_all, tableau_moves, IsClosedText, IsMovesRight, IsMovesFaulty, tableau_cause_at, TableauVerdict, tableau_accepted, tableau_rejected, literals_of, tableau_verdict, IsTableauJudgement}
+use Rattle.calculus.specs.TableauText.{value_is_written, values_are_written, values_text, Chosen, Move, reduction, extension, Moves, side_text, sides_text, chosen_text, move_line, tableau_head, chosen_is_written, move_is_written, moves_texts, IsMovesText, tableau_causes, chosen_of, moves_of, moves_of_all, tableau_moves, IsClosedText, TableauVerdict, tableau_accepted, tableau_rejected, literals_of, tableau_verdict, IsTableauJudgement}
 use Rattle.calculus.proofs.TextLaws.{cons-tail, decimal-split}
 use Rattle.calculus.proofs.TermTextLaws.{small-number}
 use Rattle.calculus.proofs.DerivationTextLaws.{cancel, lines_on, lines_on-append, end_text, limit-small}
-use Rattle.calculus.proofs.JudgementLaws.{take-less}
+use Rattle.calculus.proofs.FirstWrongLaws.{text-verdict-unique}
 use Rattle.calculus.proofs.VersionLaws.{kind-split}
 use Rattle.calculus.proofs.GroundTextLaws.{values-split}
 use Rattle.calculus.proofs.TableauTextLaws.{not_accepted, allowed-literals, closed-accepted, accepted-closed}
@@ -92,7 +92,7 @@ end-no_move S (extension k i) q e = differ-at _ _ 1 e refl
 abbrev start_line : List Symbol → Chosen → List ℕ
 start_line S i = codes "start " ++ chosen_text S i
 
-moves-parts : (P : Problem) (x : Moves) → moves_text P x ≡ lines_on (tableau_head P x.limit) ((start_line P.symbols x.start ++ 10 ∷ lines_on (map (move_line P.symbols) x.moves) end_text))
+moves-parts : (P : Problem) (x : Moves) → text_of (moves_texts P) x ≡ lines_on (tableau_head P x.limit) ((start_line P.symbols x.start ++ 10 ∷ lines_on (map (move_line P.symbols) x.moves) end_text))
 moves-parts P x =
     let head = tableau_head P x.limit in
     let start = start_line P.symbols x.start in
@@ -115,8 +115,8 @@ head-split P m n r s hm hn e =
 pub moves-unique : (P : Problem) → IsTrue (are_distinct P.symbols) → (x y : Moves) (bytes : List ℕ) → IsMovesText P x bytes → IsMovesText P y bytes → x ≡ y
 moves-unique P distinct x y bytes t u =
     let S = P.symbols in
-    let px = and_parts (is_limit x.limit && chosen_is_written S x.start) (list_all (move_is_written S) x.moves) t.written in
-    let py = and_parts (is_limit y.limit && chosen_is_written S y.start) (list_all (move_is_written S) y.moves) u.written in
+    let px = and_parts (is_limit x.limit && chosen_is_written S x.start) (list_all (move_is_written S) x.moves) t.printable in
+    let py = and_parts (is_limit y.limit && chosen_is_written S y.start) (list_all (move_is_written S) y.moves) u.printable in
     let qx = and_parts (is_limit x.limit) (chosen_is_written S x.start) px.0 in
     let qy = and_parts (is_limit y.limit) (chosen_is_written S y.start) py.0 in
     let rx = lines_on (map (move_line S) x.moves) end_text in
@@ -236,27 +236,9 @@ closed_text-unique P distinct t u d e bytes x y =
 
 -- ---- the judgement
 
-moves_right-less : (P : Problem) (bytes : List ℕ) (k n : ℕ) → k ≤ n → IsMovesRight P bytes n → IsMovesRight P bytes k
-moves_right-less P bytes k n le (x, r) =
-    let there = r.are_there in
-    let them = r.has_them in
-    (x, record { written = r.written; are_there = omega arith; has_them = omega arith; same = take-less k n (whole_lines bytes) (moves_lines P x) le r.same })
-
-pub moves_faulty-unique : (P : Problem) (bytes : List ℕ) (m n : ℕ) → IsMovesFaulty P bytes m → IsMovesFaulty P bytes n → m ≡ n
-moves_faulty-unique P bytes m n f g = elim (cases_order m n) [
-  | inl same ↦ same
-  | inr apart ↦ elim apart [
-    | inl less ↦ absurd (f.wrong (moves_right-less P bytes (m + 1) n (omega arith) g.right))
-    | inr more ↦ absurd (g.wrong (moves_right-less P bytes (n + 1) m (omega arith) f.right))
-  ]
-]
-
 -- bytes have at most one judgement
 pub tableau_judgement-unique : (P : Problem) → IsTrue (are_distinct P.symbols) → (bytes : List ℕ) (v w : TableauVerdict) → IsTableauJudgement P bytes v → IsTableauJudgement P bytes w → v ≡ w
-tableau_judgement-unique P distinct bytes v w (inl f) (inl g) = f.verdict ∙ ap (λ k. tableau_rejected (k + 1) (tableau_cause_at bytes k)) (moves_faulty-unique P bytes f.right_lines g.right_lines f.faulty g.faulty) ∙ sym g.verdict
-tableau_judgement-unique P distinct bytes v w (inl f) (inr g) = absurd (f.faulty.no_text g.moves g.text)
-tableau_judgement-unique P distinct bytes v w (inr f) (inl g) = absurd (g.faulty.no_text f.moves f.text)
-tableau_judgement-unique P distinct bytes v w (inr f) (inr g) = f.verdict ∙ ap (tableau_verdict P) (moves-unique P distinct f.moves g.moves bytes f.text g.text) ∙ sym g.verdict
+tableau_judgement-unique P distinct bytes v w = text-verdict-unique (moves_texts P) tableau_causes tableau_rejected (tableau_verdict P) bytes (λ x y. moves-unique P distinct x y bytes) v w
 
 -- ---- acceptance is that of a closed tableau
 
@@ -290,9 +272,9 @@ pub record ClosedIn (P : Problem) (bytes : List ℕ) : Type 0 where
 pub accepted-text : (P : Problem) (bytes : List ℕ) → IsTableauJudgement P bytes tableau_accepted → ClosedIn P bytes
 accepted-text P bytes (inl f) = absurd (not_accepted (sym f.verdict))
 accepted-text P bytes (inr g) =
-    let c = accepted-closed P g.moves (sym g.verdict) in
-    record { tableau = c.tableau; limit = g.moves.limit; is_text = record { text = record { instances = closed-instances P g.moves.limit c.tableau c.closed; text = subst (λ x. IsMovesText P x bytes) (sym c.moves) g.text }; closed = c.closed } }
+    let c = accepted-closed P g.value (sym g.verdict) in
+    record { tableau = c.tableau; limit = g.value.limit; is_text = record { text = record { instances = closed-instances P g.value.limit c.tableau c.closed; text = subst (λ x. IsMovesText P x bytes) (sym c.moves) g.text }; closed = c.closed } }
 
 -- and the text of a closed tableau is accepted
 pub text-accepted : (P : Problem) (t : Tableau) (d : ℕ) (bytes : List ℕ) → IsClosedText P t d bytes → IsTableauJudgement P bytes tableau_accepted
-text-accepted P t d bytes h = inr (record { moves = tableau_moves t d; text = h.text.text; verdict = sym (closed-accepted P t d h.closed) })
+text-accepted P t d bytes h = inr (record { value = tableau_moves t d; text = h.text.text; verdict = sym (closed-accepted P t d h.closed) })

@@ -14,7 +14,8 @@ use Rattle.calculus.specs.Skolem.{has_function, is_delta_position, is_pi_positio
 use Rattle.calculus.specs.Instances.{ClauseInstance, gamma_is_allowed, root_spot}
 use Rattle.calculus.specs.ComputedInstances.{Part, part_of, if_used_up, is_allowed_instance}
 use Rattle.calculus.specs.Tableaux.{Closing, Closings, reduce, extend, no_closings, more_closings, Tableau, closes, closes_all, is_closed}
-use Rattle.calculus.specs.TableauText.{ground_is_written, grounds_are_written, ground_mark_is_written, marks_are_written, value_is_written, values_are_written, ground_has_numbers, grounds_have_numbers, ground_mark_has_numbers, marks_have_numbers, value_has_numbers, values_have_numbers, instance_has_numbers, closing_has_numbers, closings_have_numbers, tableau_has_numbers, chosen_is_written, move_is_written, are_written, chosen_of, moves_of, moves_of_all, tableau_moves, moves_text, IsClosedText}
+use Rattle.calculus.specs.FirstWrong.{text_of}
+use Rattle.calculus.specs.TableauText.{ground_is_written, grounds_are_written, ground_mark_is_written, marks_are_written, value_is_written, values_are_written, ground_has_numbers, grounds_have_numbers, ground_mark_has_numbers, marks_have_numbers, value_has_numbers, values_have_numbers, instance_has_numbers, closing_has_numbers, closings_have_numbers, tableau_has_numbers, chosen_is_written, move_is_written, are_written, chosen_of, moves_of, moves_of_all, tableau_moves, moves_texts, IsClosedText}
 use Rattle.calculus.proofs.TableauTextUnique.{extends, closed-parts, closed-instances}
 
 mutual
@@ -111,5 +112,5 @@ closed-written P t d limit h n =
     (closings-written P d [] t.start.literals t.goals x.goals a.1)
 
 -- so it has a text
-pub closed-text : (P : Problem) (t : Tableau) (d : ℕ) → IsTrue (is_limit d) → IsTrue (is_closed P d t) → IsTrue (tableau_has_numbers t) → IsClosedText P t d (moves_text P (tableau_moves t d))
-closed-text P t d limit h n = record { text = record { instances = closed-instances P d t h; text = record { written = closed-written P t d limit h n; text = refl } }; closed = h }
+pub closed-text : (P : Problem) (t : Tableau) (d : ℕ) → IsTrue (is_limit d) → IsTrue (is_closed P d t) → IsTrue (tableau_has_numbers t) → IsClosedText P t d (text_of (moves_texts P) (tableau_moves t d))
+closed-text P t d limit h n = record { text = record { instances = closed-instances P d t h; text = record { printable = closed-written P t d limit h n; text = refl } }; closed = h }

@@ -12,8 +12,9 @@ use Rattle.calculus.specs.Problems.{are_distinct}
 use Rattle.calculus.specs.Derivations.{character_eq, Label, Home, anywhere, home_at, EigenName, SpareName, ModalArg, no_modal, to, by_new, TermArg, no_term, by_term, by_name, Step, apply_to, close, Derivation}
 use Rattle.calculus.specs.Equality.{term_eq}
 use Rattle.calculus.specs.Text.{is_digit, Ends, is_number, formula_text, label_text, term_text}
-use Rattle.calculus.specs.DerivationText.{setting_text, eigen_text, line_bytes, label_is_written, term_is_written, home_is_written, modal_is_written, term_arg_is_written, step_is_written, names_are_written, rises_from, is_limit, is_printable}
-use Rattle.calculus.specs.Versions.{first_line, label_line, term_line, lines_from, NumberedEigen, NumberedSpare, NumberedModal, no_numbered_modal, to_number, by_character, NumberedTerm, no_numbered_term, by_number, by_eigen, NumberedStep, numbered_use, numbered_axiom, NumberedDerivation, numbered_eigen_line, numbered_home_text, numbered_spare_line, numbered_modal_text, numbered_term_text, numbered_step_line, numbered_head, numbered_text, is_among, is_count, numbered_home_is_written, numbered_modal_is_written, numbered_term_is_written, numbered_step_is_written, numbered_eigen_is_written, numbered_spare_is_written, is_written, is_printable_in, IsTextIn, numbered, once, place_in, number_in, same_label, home_labels, home_number, modal_labels, step_labels, arg_terms, step_terms, numbering, stated, stated_home, stated_modal, stated_term, stated_eigen, stated_spare, stated_step, numbered_modal, numbered_arg, numbered_eigen, numbered_spare, numbered_step, labels_of, terms_of}
+use Rattle.calculus.specs.DerivationText.{setting_text, eigen_text, label_is_written, term_is_written, home_is_written, modal_is_written, term_arg_is_written, step_is_written, names_are_written, rises_from, is_limit, is_printable}
+use Rattle.calculus.specs.Versions.{first_line, label_line, term_line, lines_from, NumberedEigen, NumberedSpare, NumberedModal, no_numbered_modal, to_number, by_character, NumberedTerm, no_numbered_term, by_number, by_eigen, NumberedStep, numbered_use, numbered_axiom, NumberedDerivation, numbered_eigen_line, numbered_home_text, numbered_spare_line, numbered_modal_text, numbered_term_text, numbered_step_line, numbered_head, is_among, is_count, numbered_home_is_written, numbered_modal_is_written, numbered_term_is_written, numbered_step_is_written, numbered_eigen_is_written, numbered_spare_is_written, is_written, is_printable_in, IsTextIn, numbered_texts, numbered, once, place_in, number_in, same_label, home_labels, home_number, modal_labels, step_labels, arg_terms, step_terms, numbering, stated, stated_home, stated_modal, stated_term, stated_eigen, stated_spare, stated_step, numbered_modal, numbered_arg, numbered_eigen, numbered_spare, numbered_step, labels_of, terms_of}
+use Rattle.calculus.specs.FirstWrong.{line_bytes, text_of}
 use Rattle.calculus.proofs.TextLaws.{cons-head, cons-tail, decimal-digits, decimal-split}
 use Rattle.calculus.proofs.TermTextLaws.{ends-digit, number-split, term-split, label-split}
 use Rattle.calculus.proofs.DerivationTextLaws.{entry-split, lines_on, lines_on-append, end_text, cancel, limit-small, text-unique}
@@ -310,7 +311,7 @@ part_eigens S es ss ts xs = lines_on (map numbered_eigen_line es) (part_spares S
 abbrev part_labels : List Symbol → NumberedDerivation → List ℕ
 part_labels S x = lines_on (lines_from label_line 1 x.labels) (part_eigens S x.eigens x.spares x.terms x.steps)
 
-numbered-parts : (P : Problem) (x : NumberedDerivation) → numbered_text P x ≡ lines_on (numbered_head P x.limit) (part_labels P.symbols x)
+numbered-parts : (P : Problem) (x : NumberedDerivation) → text_of (numbered_texts P) x ≡ lines_on (numbered_head P x.limit) (part_labels P.symbols x)
 numbered-parts P x =
     let head = numbered_head P x.limit in
     let ls = lines_from label_line 1 x.labels in
@@ -384,7 +385,7 @@ numbered-head-split P m n r s hm hn e =
     (k.0, cons-tail k.1)
 
 -- one text has one derivation with numbers
-pub numbered-unique : (P : Problem) → IsTrue (are_distinct P.symbols) → (x y : NumberedDerivation) → IsTrue (is_written P x) → IsTrue (is_written P y) → numbered_text P x ≡ numbered_text P y → x ≡ y
+pub numbered-unique : (P : Problem) → IsTrue (are_distinct P.symbols) → (x y : NumberedDerivation) → IsTrue (is_written P x) → IsTrue (is_written P y) → text_of (numbered_texts P) x ≡ text_of (numbered_texts P) y → x ≡ y
 numbered-unique P distinct x y hx hy e =
     let S = P.symbols in
     let p = written-parts P x hx in
@@ -557,7 +558,7 @@ versions-apart : (P : Problem) (d e : Derivation) (bytes : List ℕ) → IsTextI
 versions-apart P d e bytes t u = differ-at _ _ 19 (sym t.text ∙ u.text) refl
 
 pub text_in-unique : (P : Problem) → IsTrue (are_distinct P.symbols) → (v w : Version) (d e : Derivation) (bytes : List ℕ) → IsTextIn v P d bytes → IsTextIn w P e bytes → (v ≡ w) × (d ≡ e)
-text_in-unique P distinct One One d e bytes t u = (refl, text-unique P distinct d e bytes (record { printable = t.printable; text = t.text }) (record { printable = u.printable; text = u.text }))
+text_in-unique P distinct One One d e bytes t u = (refl, text-unique P distinct d e bytes t u)
 text_in-unique P distinct One Two d e bytes t u = absurd (versions-apart P d e bytes t u)
 text_in-unique P distinct Two One d e bytes t u = absurd (versions-apart P e d bytes u t)
 text_in-unique P distinct Two Two d e bytes t u = (refl, text_two-unique P distinct d e bytes t u)

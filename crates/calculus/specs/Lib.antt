@@ -22,6 +22,7 @@ pub mod Substitution
 pub mod Calculus
 -- texts and their judgement
 pub mod Text
+pub mod FirstWrong
 pub mod DerivationText
 pub mod Judgement
 -- ground values, tests of equality, positions and names

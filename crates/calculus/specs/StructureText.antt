@@ -1,7 +1,7 @@
 -- The text of a finite structure, what is wrong with bytes that are none or state no structure of the problem's setting, and what the
 -- bytes say of the problem's formula. Worlds and elements are numbered from 0 in a structure, and from 1 in its text.
-use Rattle.std.specs.Prelude.{◌≡◌, ◌⊎◌, ℕ, suc, ◌+◌, ◌^◌, ◌≤◌, List, [], ◌∷◌, ◌++◌, length, map, take, Bool, true, false, not, ◌&&◌, ◌||◌, ◌==◌, Option, Some, None, IsTrue, nat_le, codes, decimal, if◌then◌else◌}
-use Rattle.std.specs.List.{list_all, list_any, flat_map}
+use Rattle.std.specs.Prelude.{◌⊎◌, ℕ, suc, ◌+◌, ◌^◌, List, [], ◌∷◌, ◌++◌, length, map, Bool, true, false, not, ◌&&◌, ◌||◌, ◌==◌, Option, Some, None, nat_le, codes, decimal, if◌then◌else◌}
+use Rattle.std.specs.List.{list_all, flat_map}
 use Rattle.calculus.specs.declared.limits.TheConstants.{MAX_TABLE_ENTRIES}
 use Rattle.calculus.specs.declared.setting.Logic.{Logic}
 use Rattle.calculus.specs.declared.setting.Logic.TheVariants.{Classical, Intuitionistic, D, T as LogicT, S4, S5}
@@ -13,8 +13,8 @@ use Rattle.calculus.specs.Syntax.{Symbol, Problem}
 use Rattle.calculus.specs.Equality.{contains}
 use Rattle.calculus.specs.Skolem.{is_function}
 use Rattle.calculus.specs.Text.{symbol_text}
-use Rattle.calculus.specs.DerivationText.{setting_text, line_bytes, rises_from}
-use Rattle.calculus.specs.Judgement.{whole_lines, is_end_line}
+use Rattle.calculus.specs.FirstWrong.{TextKind, IsTextOf, Causes, IsWrongText, IsJudgedText}
+use Rattle.calculus.specs.DerivationText.{setting_text, rises_from}
 use Rattle.calculus.specs.Structures.{Meaning, Structure, value_table, truth_tables, successors_of, domain_of, predicate_value, numbers_from, worlds, includes, tuples, has_element, are_tables, is_in_range, keeps_domains, is_true}
 
 -- ---- the text
@@ -57,9 +57,6 @@ structure_head P S = codes "leancop structure 1" ∷ (codes "logic " ++ setting_
 abbrev pub structure_lines : Problem → Structure → List (List ℕ)
 structure_lines P S = structure_head P S ++ world_lines (codes "relation ") 0 S.successors ++ world_lines (codes "domain ") 0 S.domains ++ function_lines P.symbols S.meanings ++ predicate_lines P.symbols S.meanings ++ codes "end" ∷ []
 
-abbrev pub structure_text : Problem → Structure → List ℕ
-structure_text P S = flat_map line_bytes (structure_lines P S)
-
 -- ---- which structures can be written
 
 abbrev pub is_size : ℕ → Bool
@@ -78,39 +75,15 @@ can_be_stated P S =
     && (is_in_range S && list_all rises S.successors && list_all rises S.domains)
     && are_tables S P.symbols S.meanings
 
+abbrev pub structure_texts : Problem → TextKind Structure
+structure_texts P = record { printable = can_be_stated P; lines = structure_lines P }
+
 -- the bytes are the text of the structure, which need not be one of the problem's setting
-pub record IsStructureText (P : Problem) (S : Structure) (bytes : List ℕ) : Type 0 where
-  pub stated : IsTrue (can_be_stated P S)
-  pub text : bytes ≡ structure_text P S
+abbrev pub IsStructureText : Problem → Structure → List ℕ → Type 0
+IsStructureText P S bytes = IsTextOf (structure_texts P) S bytes
 
--- ---- the faults of the text
-
--- the first n lines are those of some structure that can be stated
-pub record IsStructureUpTo (P : Problem) (bytes : List ℕ) (n : ℕ) (S : Structure) : Type 0 where
-  pub stated : IsTrue (can_be_stated P S)
-  pub are_there : n ≤ length (whole_lines bytes)
-  pub has_them : n ≤ length (structure_lines P S)
-  pub same : take n (whole_lines bytes) ≡ take n (structure_lines P S)
-
-abbrev pub IsStructureRight : Problem → List ℕ → ℕ → Type 0
-IsStructureRight P bytes n = (S : Structure) × IsStructureUpTo P bytes n S
-
--- the bytes are no text: n lines are right, and no more
-pub record IsStructureFaulty (P : Problem) (bytes : List ℕ) (n : ℕ) : Type 0 where
-  pub right : IsStructureRight P bytes n
-  pub wrong : ¬ IsStructureRight P bytes (n + 1)
-  pub no_text : (S : Structure) → ¬ IsStructureText P S bytes
-
--- the cause where the line after these is the first wrong one
-abbrev pub structure_cause_after : List (List ℕ) → StructureCause
-structure_cause_after [] = cause.Version
-structure_cause_after (a ∷ []) = cause.Setting
-structure_cause_after (a ∷ b ∷ []) = cause.Size
-structure_cause_after (a ∷ b ∷ c ∷ []) = cause.Size
-structure_cause_after (a ∷ b ∷ c ∷ d ∷ ls) = if list_any is_end_line ls then cause.TextAfterEnd else cause.Line
-
-abbrev pub structure_cause_at : List ℕ → ℕ → StructureCause
-structure_cause_at bytes n = structure_cause_after (take n (whole_lines bytes))
+abbrev pub structure_causes : Causes StructureCause
+structure_causes = record { head = cause.Version ∷ cause.Setting ∷ cause.Size ∷ cause.Size ∷ []; after_end = cause.TextAfterEnd; behind_head = λ before next. cause.Line }
 
 -- ---- the conditions of a setting, in the order in which they are judged
 
@@ -215,17 +188,5 @@ verdict_after_conditions P S (Some c) = bad_structure c.line c.cause
 abbrev pub structure_verdict : Problem → Structure → StructureVerdict
 structure_verdict P S = verdict_after_conditions P S (first_broken (conditions P S))
 
--- the bytes are the text of no structure, and the first wrong line tells why
-pub record IsWrongStructureText (P : Problem) (bytes : List ℕ) (v : StructureVerdict) : Type 0 where
-  pub right_lines : ℕ
-  pub faulty : IsStructureFaulty P bytes right_lines
-  pub verdict : v ≡ bad_structure (right_lines + 1) (structure_cause_at bytes right_lines)
-
--- the bytes are the text of a structure with this verdict
-pub record IsJudgedStructure (P : Problem) (bytes : List ℕ) (v : StructureVerdict) : Type 0 where
-  pub structure : Structure
-  pub text : IsStructureText P structure bytes
-  pub verdict : v ≡ structure_verdict P structure
-
 abbrev pub IsStructureJudgement : Problem → List ℕ → StructureVerdict → Type 0
-IsStructureJudgement P bytes v = IsWrongStructureText P bytes v ⊎ IsJudgedStructure P bytes v
+IsStructureJudgement P bytes v = IsWrongText (structure_texts P) structure_causes bad_structure bytes v ⊎ IsJudgedText (structure_texts P) (structure_verdict P) bytes v

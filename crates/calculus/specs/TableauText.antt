@@ -1,7 +1,7 @@
 -- The text of a ground tableau, and its judgement. The closings stand in preorder; an instance is written by its sides and values, and
 -- its literals, which these determine, are not written.
-use Rattle.std.specs.Prelude.{◌≡◌, ◌⊎◌, ℕ, suc, ◌+◌, ◌≤◌, List, [], ◌∷◌, ◌++◌, length, map, take, Bool, true, not, ◌&&◌, Option, Some, None, Result, Ok, Err, IsTrue, nat_lt, slice_get, remove, codes, decimal, if◌then◌else◌}
-use Rattle.std.specs.List.{list_all, list_any, flat_map}
+use Rattle.std.specs.Prelude.{◌⊎◌, ℕ, suc, ◌+◌, List, [], ◌∷◌, ◌++◌, length, map, Bool, true, not, ◌&&◌, Option, Some, None, Result, Ok, Err, IsTrue, nat_lt, slice_get, remove, codes, decimal, if◌then◌else◌}
+use Rattle.std.specs.List.{list_all}
 use Rattle.calculus.specs.declared.sign.Side.{Side}
 use Rattle.calculus.specs.declared.sign.Side.TheVariants.{Left, Right}
 use Rattle.calculus.specs.declared.fault.TableauFault.{TableauFault}
@@ -13,8 +13,8 @@ use Rattle.calculus.specs.Instances.{ClauseInstance, gamma_is_allowed}
 use Rattle.calculus.specs.ComputedInstances.{Part, instance_of, is_instance}
 use Rattle.calculus.specs.Tableaux.{Closing, Closings, reduce, extend, no_closings, more_closings, Tableau, is_complement, ancestor, is_new_on, is_shown, instances, total_steps, has_unbounded_strings, strings_within, is_closed}
 use Rattle.calculus.specs.Text.{is_number, symbol_at, formula_text}
-use Rattle.calculus.specs.DerivationText.{setting_text, line_bytes, is_limit}
-use Rattle.calculus.specs.Judgement.{whole_lines, is_end_line}
+use Rattle.calculus.specs.FirstWrong.{TextKind, IsTextOf, Causes, IsWrongText, IsJudgedText}
+use Rattle.calculus.specs.DerivationText.{setting_text, is_limit}
 
 -- ---- the text of values. A string of marks stands between square brackets, a list of values between braces
 
@@ -85,34 +85,6 @@ abbrev mutual
   values_are_written symbols no_values = true
   values_are_written symbols (more_values v vs) = value_is_written symbols v && values_are_written symbols vs
 
--- each number has 32 bits, as those of values in memory have
-abbrev mutual
-  pub ground_has_numbers : GroundTerm → Bool
-  ground_has_numbers (g_fun f ts) = grounds_have_numbers ts
-  ground_has_numbers (g_eigen p vs) = is_number p && values_have_numbers vs
-  ground_has_numbers (common k) = is_number k
-  ground_has_numbers (own k w) = is_number k && marks_have_numbers w
-
-  pub grounds_have_numbers : GroundTerms → Bool
-  grounds_have_numbers no_g_terms = true
-  grounds_have_numbers (more_g_terms t ts) = ground_has_numbers t && grounds_have_numbers ts
-
-  pub ground_mark_has_numbers : GroundMark → Bool
-  ground_mark_has_numbers (g_new_mark p vs) = is_number p && values_have_numbers vs
-  ground_mark_has_numbers (g_spare_mark k) = is_number k
-
-  pub marks_have_numbers : Marks → Bool
-  marks_have_numbers no_marks = true
-  marks_have_numbers (more_marks m ms) = ground_mark_has_numbers m && marks_have_numbers ms
-
-  pub value_has_numbers : Value → Bool
-  value_has_numbers (term t) = ground_has_numbers t
-  value_has_numbers (steps w) = marks_have_numbers w
-
-  pub values_have_numbers : Values → Bool
-  values_have_numbers no_values = true
-  values_have_numbers (more_values v vs) = value_has_numbers v && values_have_numbers vs
-
 -- ---- what the lines state
 
 -- a clause instance by its sides and values
@@ -151,9 +123,6 @@ tableau_head P limit = codes "leancop tableau 1" ∷ (codes "logic " ++ setting_
 abbrev pub moves_lines : Problem → Moves → List (List ℕ)
 moves_lines P x = tableau_head P x.limit ++ (codes "start " ++ chosen_text P.symbols x.start) ∷ map (move_line P.symbols) x.moves ++ codes "end" ∷ []
 
-abbrev pub moves_text : Problem → Moves → List ℕ
-moves_text P x = flat_map line_bytes (moves_lines P x)
-
 abbrev pub chosen_is_written : List Symbol → Chosen → Bool
 chosen_is_written symbols i = list_all (value_is_written symbols) i.values
 
@@ -164,9 +133,14 @@ move_is_written symbols (extension place i) = is_number place && chosen_is_writt
 abbrev pub are_written : Problem → Moves → Bool
 are_written P x = is_limit x.limit && chosen_is_written P.symbols x.start && list_all (move_is_written P.symbols) x.moves
 
-pub record IsMovesText (P : Problem) (x : Moves) (bytes : List ℕ) : Type 0 where
-  pub written : IsTrue (are_written P x)
-  pub text : bytes ≡ moves_text P x
+abbrev pub moves_texts : Problem → TextKind Moves
+moves_texts P = record { printable = are_written P; lines = moves_lines P }
+
+abbrev pub IsMovesText : Problem → Moves → List ℕ → Type 0
+IsMovesText P x bytes = IsTextOf (moves_texts P) x bytes
+
+abbrev pub tableau_causes : Causes TableauFault
+tableau_causes = record { head = fault.Version ∷ fault.Setting ∷ fault.Formula ∷ fault.Limit ∷ []; after_end = fault.TextAfterEnd; behind_head = λ before next. fault.Line }
 
 -- ---- the moves of a tableau
 
@@ -185,22 +159,6 @@ abbrev mutual
 abbrev pub tableau_moves : Tableau → ℕ → Moves
 tableau_moves t limit = record { limit = limit; start = chosen_of t.start; moves = moves_of_all t.goals }
 
--- each number of the tableau has 32 bits
-abbrev pub instance_has_numbers : ClauseInstance → Bool
-instance_has_numbers i = list_all value_has_numbers i.values
-
-abbrev mutual
-  pub closing_has_numbers : Closing → Bool
-  closing_has_numbers (reduce up) = is_number up
-  closing_has_numbers (extend i place below) = is_number place && instance_has_numbers i && closings_have_numbers below
-
-  pub closings_have_numbers : Closings → Bool
-  closings_have_numbers no_closings = true
-  closings_have_numbers (more_closings c cs) = closing_has_numbers c && closings_have_numbers cs
-
-abbrev pub tableau_has_numbers : Tableau → Bool
-tableau_has_numbers t = instance_has_numbers t.start && closings_have_numbers t.goals
-
 -- the bytes are the text of the tableau, whose literals are those of its instances, with this limit
 pub record IsTableauText (P : Problem) (t : Tableau) (limit : ℕ) (bytes : List ℕ) : Type 0 where
   pub instances : IsTrue (list_all (is_instance P) (instances t))
@@ -210,35 +168,6 @@ pub record IsTableauText (P : Problem) (t : Tableau) (limit : ℕ) (bytes : List
 pub record IsClosedText (P : Problem) (t : Tableau) (limit : ℕ) (bytes : List ℕ) : Type 0 where
   pub text : IsTableauText P t limit bytes
   pub closed : IsTrue (is_closed P limit t)
-
--- ---- the faults of the text
-
--- the first n lines are those of some moves that can be written
-pub record IsMovesUpTo (P : Problem) (bytes : List ℕ) (n : ℕ) (x : Moves) : Type 0 where
-  pub written : IsTrue (are_written P x)
-  pub are_there : n ≤ length (whole_lines bytes)
-  pub has_them : n ≤ length (moves_lines P x)
-  pub same : take n (whole_lines bytes) ≡ take n (moves_lines P x)
-
-abbrev pub IsMovesRight : Problem → List ℕ → ℕ → Type 0
-IsMovesRight P bytes n = (x : Moves) × IsMovesUpTo P bytes n x
-
--- the bytes are no text: n lines are right, and no more
-pub record IsMovesFaulty (P : Problem) (bytes : List ℕ) (n : ℕ) : Type 0 where
-  pub right : IsMovesRight P bytes n
-  pub wrong : ¬ IsMovesRight P bytes (n + 1)
-  pub no_text : (x : Moves) → ¬ IsMovesText P x bytes
-
--- the cause where the line after these is the first wrong one
-abbrev pub tableau_cause_after : List (List ℕ) → TableauFault
-tableau_cause_after [] = fault.Version
-tableau_cause_after (a ∷ []) = fault.Setting
-tableau_cause_after (a ∷ b ∷ []) = fault.Formula
-tableau_cause_after (a ∷ b ∷ c ∷ []) = fault.Limit
-tableau_cause_after (a ∷ b ∷ c ∷ d ∷ ls) = if list_any is_end_line ls then fault.TextAfterEnd else fault.Line
-
-abbrev pub tableau_cause_at : List ℕ → ℕ → TableauFault
-tableau_cause_at bytes n = tableau_cause_after (take n (whole_lines bytes))
 
 -- ---- the judgement of the lines, in order
 
@@ -312,18 +241,52 @@ start_verdict P x (Ok literals) = if list_all is_shown literals then moves_verdi
 abbrev pub tableau_verdict : Problem → Moves → TableauVerdict
 tableau_verdict P x = start_verdict P x (literals_of P x.start)
 
--- the bytes are the text of no moves, and the first wrong line tells why
-pub record IsWrongTableauText (P : Problem) (bytes : List ℕ) (v : TableauVerdict) : Type 0 where
-  pub right_lines : ℕ
-  pub faulty : IsMovesFaulty P bytes right_lines
-  pub verdict : v ≡ tableau_rejected (right_lines + 1) (tableau_cause_at bytes right_lines)
-
--- the bytes are the text of moves with this verdict
-pub record IsJudgedMoves (P : Problem) (bytes : List ℕ) (v : TableauVerdict) : Type 0 where
-  pub moves : Moves
-  pub text : IsMovesText P moves bytes
-  pub verdict : v ≡ tableau_verdict P moves
-
 -- a law says that the bytes are accepted exactly where they are the text of a closed tableau
 abbrev pub IsTableauJudgement : Problem → List ℕ → TableauVerdict → Type 0
-IsTableauJudgement P bytes v = IsWrongTableauText P bytes v ⊎ IsJudgedMoves P bytes v
+IsTableauJudgement P bytes v = IsWrongText (moves_texts P) tableau_causes tableau_rejected bytes v ⊎ IsJudgedText (moves_texts P) (tableau_verdict P) bytes v
+
+-- ---- what can be counted: which tableaux that are closed have a text
+
+-- each number has 32 bits, as those of values in memory have
+abbrev mutual
+  pub ground_has_numbers : GroundTerm → Bool
+  ground_has_numbers (g_fun f ts) = grounds_have_numbers ts
+  ground_has_numbers (g_eigen p vs) = is_number p && values_have_numbers vs
+  ground_has_numbers (common k) = is_number k
+  ground_has_numbers (own k w) = is_number k && marks_have_numbers w
+
+  pub grounds_have_numbers : GroundTerms → Bool
+  grounds_have_numbers no_g_terms = true
+  grounds_have_numbers (more_g_terms t ts) = ground_has_numbers t && grounds_have_numbers ts
+
+  pub ground_mark_has_numbers : GroundMark → Bool
+  ground_mark_has_numbers (g_new_mark p vs) = is_number p && values_have_numbers vs
+  ground_mark_has_numbers (g_spare_mark k) = is_number k
+
+  pub marks_have_numbers : Marks → Bool
+  marks_have_numbers no_marks = true
+  marks_have_numbers (more_marks m ms) = ground_mark_has_numbers m && marks_have_numbers ms
+
+  pub value_has_numbers : Value → Bool
+  value_has_numbers (term t) = ground_has_numbers t
+  value_has_numbers (steps w) = marks_have_numbers w
+
+  pub values_have_numbers : Values → Bool
+  values_have_numbers no_values = true
+  values_have_numbers (more_values v vs) = value_has_numbers v && values_have_numbers vs
+
+-- each number of the tableau has 32 bits
+abbrev pub instance_has_numbers : ClauseInstance → Bool
+instance_has_numbers i = list_all value_has_numbers i.values
+
+abbrev mutual
+  pub closing_has_numbers : Closing → Bool
+  closing_has_numbers (reduce up) = is_number up
+  closing_has_numbers (extend i place below) = is_number place && instance_has_numbers i && closings_have_numbers below
+
+  pub closings_have_numbers : Closings → Bool
+  closings_have_numbers no_closings = true
+  closings_have_numbers (more_closings c cs) = closing_has_numbers c && closings_have_numbers cs
+
+abbrev pub tableau_has_numbers : Tableau → Bool
+tableau_has_numbers t = instance_has_numbers t.start && closings_have_numbers t.goals

@@ -1,6 +1,6 @@
 -- Version 2 of the text of a derivation, and texts of either version. Version 2 states each label and each term once, in a line with
 -- a number, and refers to it by this number.
-use Rattle.std.specs.Prelude.{◌≡◌, ℕ, zero, suc, ◌^◌, List, [], ◌∷◌, ◌++◌, length, map, Bool, true, not, ◌&&◌, Option, Some, None, IsTrue, nat_lt, nat_le, slice_index_or, codes, decimal, if◌then◌else◌}
+use Rattle.std.specs.Prelude.{ℕ, zero, suc, ◌^◌, List, [], ◌∷◌, ◌++◌, length, map, Bool, true, not, ◌&&◌, Option, Some, None, nat_lt, nat_le, slice_index_or, codes, decimal, if◌then◌else◌}
 use Rattle.std.specs.List.{list_all, flat_map, filter}
 use Rattle.calculus.specs.declared.version.Version.{Version}
 use Rattle.calculus.specs.declared.version.Version.TheVariants.{One, Two}
@@ -8,7 +8,8 @@ use Rattle.calculus.specs.Syntax.{Symbol, Term, spare, Problem}
 use Rattle.calculus.specs.Equality.{list_eq, term_eq}
 use Rattle.calculus.specs.Derivations.{character_eq, Label, Home, anywhere, home_at, EigenName, SpareName, ModalArg, no_modal, to, by_new, TermArg, no_term, by_term, by_name, Step, apply_to, close, Derivation}
 use Rattle.calculus.specs.Text.{is_number, term_text, formula_text, label_text}
-use Rattle.calculus.specs.DerivationText.{setting_text, eigen_text, line_bytes, derivation_lines, is_name_number, label_is_written, term_is_written, rises_from, is_limit, is_printable}
+use Rattle.calculus.specs.FirstWrong.{TextKind, IsTextOf, text_of}
+use Rattle.calculus.specs.DerivationText.{setting_text, eigen_text, derivation_lines, is_name_number, label_is_written, term_is_written, rises_from, is_limit, is_printable}
 
 -- ---- a derivation with numbers in place of its labels and terms, and the two lists that these number from 1
 
@@ -89,9 +90,6 @@ numbered_head P limit = first_line Two ∷ (codes "logic " ++ setting_text P.set
 
 abbrev pub numbered_lines : Problem → NumberedDerivation → List (List ℕ)
 numbered_lines P x = numbered_head P x.limit ++ lines_from label_line 1 x.labels ++ map numbered_eigen_line x.eigens ++ map numbered_spare_line x.spares ++ lines_from (term_line P.symbols) 1 x.terms ++ map numbered_step_line x.steps ++ codes "end" ∷ []
-
-abbrev pub numbered_text : Problem → NumberedDerivation → List ℕ
-numbered_text P x = flat_map line_bytes (numbered_lines P x)
 
 -- ---- which ones can be written
 
@@ -265,15 +263,26 @@ abbrev pub lines_in : Version → Problem → Derivation → List (List ℕ)
 lines_in One P d = derivation_lines P d
 lines_in Two P d = numbered_lines P (numbering d)
 
-abbrev pub text_in : Version → Problem → Derivation → List ℕ
-text_in v P d = flat_map line_bytes (lines_in v P d)
-
 -- the derivation can be printed: for version 2 its labels and terms can also be counted, as those of a derivation in memory can
 abbrev pub is_printable_in : Version → Problem → Derivation → Bool
 is_printable_in One P d = is_printable P d
 is_printable_in Two P d = is_printable P d && (is_count (length (numbering d).labels) && is_count (length (numbering d).terms))
 
+abbrev pub derivation_texts : Version → Problem → TextKind Derivation
+derivation_texts v P = record { printable = is_printable_in v P; lines = lines_in v P }
+
+abbrev pub text_in : Version → Problem → Derivation → List ℕ
+text_in v P d = text_of (derivation_texts v P) d
+
 -- the bytes are the text of the derivation in this version
-pub record IsTextIn (v : Version) (P : Problem) (d : Derivation) (bytes : List ℕ) : Type 0 where
-  pub printable : IsTrue (is_printable_in v P d)
-  pub text : bytes ≡ text_in v P d
+abbrev pub IsTextIn : Version → Problem → Derivation → List ℕ → Type 0
+IsTextIn v P d bytes = IsTextOf (derivation_texts v P) d bytes
+
+-- ---- texts in the form of version 2, whose numbers may be others than those of the derivation that they state
+
+abbrev pub numbered_texts : Problem → TextKind NumberedDerivation
+numbered_texts P = record { printable = is_written P; lines = numbered_lines P }
+
+-- the bytes are the text of a derivation with numbers
+abbrev pub IsNumberedText : Problem → NumberedDerivation → List ℕ → Type 0
+IsNumberedText P x bytes = IsTextOf (numbered_texts P) x bytes

@@ -1,6 +1,7 @@
 -- Two tableaux made by hand, with their turns in order, their names and the derivations that they become.
 use Rattle.std.proofs.Common.{◌≡◌, ℕ, ◌+◌, ◌*◌, List, [], ◌∷◌, map, Some, None, true, refl}
 use Rattle.std.specs.Prelude.{codes}
+use Rattle.calculus.specs.declared.version.Version.TheVariants.{One}
 use Rattle.calculus.specs.declared.sign.Sign.{Sign}
 use Rattle.calculus.specs.declared.sign.Sign.TheVariants.{T, F}
 use Rattle.calculus.specs.declared.sign.Side.{Side}
@@ -18,7 +19,8 @@ use Rattle.conversion_theory.specs.Turns.{Name, mark_name, turns_of, names_of_ta
 use Rattle.conversion_theory.specs.Numbering.{number_in, number_of, numbered_label, name_lines_of}
 use Rattle.calculus.specs.Derivations.{no_modal, to, by_new, no_term, apply_to, close, Derivation}
 use Rattle.calculus.specs.DerivationText.{is_printable}
-use Rattle.calculus.specs.Judgement.{accepted, verdict_on}
+use Rattle.calculus.specs.Judgement.{accepted}
+use Rattle.calculus.specs.VersionJudgement.{verdict_in}
 
 abbrev p : Formula
 p = atom 0 no_terms
@@ -83,7 +85,7 @@ serial_derivation = record {
   steps = apply_to 1 no_modal no_term ∷ apply_to 2 (to (numbered_label (number_of serial_names) (g_spare_mark 1 ∷ []))) no_term ∷ apply_to 3 (to (numbered_label (number_of serial_names) (g_spare_mark 1 ∷ []))) no_term ∷ close 4 5 ∷ [];
 }
 
-serial_derives : verdict_on serial serial_derivation ≡ accepted
+serial_derives : verdict_in One serial serial_derivation ≡ accepted
 serial_derives = refl
 
 serial_printable : is_printable serial serial_derivation ≡ true
@@ -153,7 +155,7 @@ excluded_derivation = record {
       ∷ [];
 }
 
-excluded_derives : verdict_on excluded excluded_derivation ≡ accepted
+excluded_derives : verdict_in One excluded excluded_derivation ≡ accepted
 unfolding excluded_derivation
 excluded_derives = refl
 

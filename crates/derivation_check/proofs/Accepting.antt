@@ -11,12 +11,11 @@ use Rattle.calculus.specs.Judgement.{accepted, rejected}
 use Rattle.calculus.specs.Problems.{are_distinct, is_problem}
 use Rattle.calculus.specs.Syntax.{Problem}
 use Rattle.calculus.specs.Versions.{IsTextIn}
-use Rattle.calculus.specs.VersionJudgement.{IsVersionJudgement, step_line_in, verdict_in}
+use Rattle.calculus.specs.VersionJudgement.{IsTextFault, IsVersionJudgement, step_line_in, verdict_in}
 use Rattle.calculus.proofs.SequentLaws.{accepted_at_iff_derives}
 use Rattle.calculus.proofs.VerdictLaws.{verdict_from-rejected}
 use Rattle.calculus.proofs.VersionJudgementLaws.{version_judgement-unique}
 use Rattle.logic_rules.proofs.ProblemFacts.{kept}
-use Rattle.derivation_text.specs.NumberedReading.{IsTextFault}
 use Rattle.derivation_check.specs.Only.{IsOnlyVersionJudgement}
 use Rattle.derivation_check.specs.declared.acceptance.AcceptFault.{AcceptFault}
 use Rattle.derivation_check.specs.declared.acceptance.AcceptFault.TheVariants as answer
@@ -33,18 +32,16 @@ judged-in P bytes accepted version d text e = record {
   text = text;
   derives = (accepted_at_iff_derives P d (step_line_in version d)).0 (sym e);
 }
-judged-in P bytes (rejected line fault) version d text e = inr (inr (inr (record {
+judged-in P bytes (rejected line fault) version d text e = inr (record {
   version = version;
   derivation = d;
   text = text;
   fails = (verdict_from-rejected P d.names (first_sequent P ∷ []) d.steps (step_line_in version d) line fault).0 (sym e);
-})))
+})
 
 -- the first wrong line of a text
 pub judged-fault : (P : Problem) (bytes : List ℕ) (line : ℕ) (cause : TextCause) → IsTextFault P bytes line cause → IsVersionJudgement P bytes (rejected line (InText cause))
-judged-fault P bytes line cause (inl h) = inl h
-judged-fault P bytes line cause (inr (inl h)) = inr (inl h)
-judged-fault P bytes line cause (inr (inr h)) = inr (inr (inl h))
+judged-fault P bytes line cause h = inl (cause, refl, h)
 
 pub judged-fault-as : (P : Problem) (bytes : List ℕ) (line at : ℕ) (cause why : TextCause) → line ≡ at → cause ≡ why → IsTextFault P bytes at why → IsVersionJudgement P bytes (rejected line (InText cause))
 judged-fault-as P bytes line at cause why place is h =

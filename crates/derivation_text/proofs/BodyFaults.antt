@@ -1,10 +1,8 @@
 -- What has been read of a body, what may follow it, and the causes of faults in it.
-use Rattle.std.proofs.Common.{◌≡◌, ◌≢◌, ℕ, List, [], ◌∷◌, ◌++◌, length, map, take, drop, Bool, true, false, ◌||◌, IsTrue, refl, sym, ◌∙◌, ap, append_assoc, append-nil, slice_get, codes, Option, None, Some, flat_map, if◌then◌else◌}
+use Rattle.std.proofs.Common.{◌≡◌, ◌≢◌, ℕ, List, [], ◌∷◌, ◌++◌, length, map, drop, Bool, true, false, ◌||◌, IsTrue, refl, sym, ◌∙◌, ap, append_assoc, append-nil, slice_get, codes, Option, None, Some, flat_map, if◌then◌else◌, ◌&&◌}
 use Rattle.std.specs.List.{list_all, list_any}
 use Rattle.std.proofs.lemmas.Bool.{and_parts}
 use Rattle.std.proofs.lemmas.List.Folds.{list_all-append, list_any-append}
-use Rattle.std.proofs.Math.Seq.{take-append_seam}
-use Rattle.plain_laws.proofs.Places.{item-after}
 use Rattle.plain_laws.proofs.Lists.{map-append, nothing-after}
 use Rattle.plain_laws.proofs.Options.{none-some, some-eq}
 use Rattle.calculus.specs.declared.fault.TextCause.{TextCause}
@@ -12,8 +10,12 @@ use Rattle.calculus.specs.declared.fault.TextCause.TheVariants as cause
 use Rattle.calculus.specs.Syntax.{Symbol, Problem}
 use Rattle.calculus.specs.Problems.{is_problem}
 use Rattle.calculus.specs.Derivations.{EigenName, SpareName, Step, apply_to, close, Derivation}
-use Rattle.calculus.specs.DerivationText.{IsText, derivation_lines, eigen_line, head_lines, is_printable, line_bytes, spare_line, step_line}
-use Rattle.calculus.specs.Judgement.{IsFaulty, cause_after, cause_at, cause_among_names, is_end_line, is_name_line, whole_lines}
+use Rattle.calculus.specs.DerivationText.{derivation_lines, eigen_line, head_lines, is_printable, spare_line, step_line}
+use Rattle.calculus.specs.FirstWrong.{line_bytes, is_end_line, whole_lines, IsFaulty, cause_after, cause_at}
+use Rattle.calculus.specs.VersionJudgement.{is_name_line, cause_in_body, text_causes}
+use Rattle.calculus.specs.Versions.{derivation_texts, IsTextIn}
+use Rattle.calculus.specs.declared.version.Version.TheVariants.{One}
+use Rattle.text_lines.proofs.FirstWrong.{IsBegun, cause-behind, faulty}
 use Rattle.logic_rules.proofs.ProblemFacts.{kept}
 use Rattle.derivation_text.specs.declared.body_line.Stage.{Stage}
 use Rattle.derivation_text.specs.declared.body_line.Stage.TheVariants.{Eigens, Spares, Steps, Ended}
@@ -21,7 +23,7 @@ use Rattle.derivation_text.specs.Body.{BodyLine, last, IsBodyLine, body_line_tex
 use Rattle.derivation_text.specs.Reading.{Fits, IsReadTo, cause_at_stage, ending, lines_at, lines_read}
 use Rattle.text_lines.specs.Lines.{IsLineAt}
 use Rattle.derivation_text.proofs.BodyLaws.{body, body-begins, body-ends, body-written, lines-body, lines-of, printable-so_far, stage-append, stage-none}
-use Rattle.derivation_text.proofs.Faults.{IsBegun, faulty}
+use Rattle.derivation_text.proofs.LineFeeds.{lines-feed}
 
 tail-eq : {A : Type 0} (x y : A) (xs ys : List A) → x ∷ xs ≡ y ∷ ys → xs ≡ ys
 tail-eq x y xs ys e = cc
@@ -89,7 +91,7 @@ open-lines P d =
     ∙ ap (λ l. (head_lines P d.limit ++ map (body_line_text P.symbols) l) ++ codes "end" ∷ []) (sym (append-nil b))
 
 -- the derivation read so far begins with the lines read
-pub begun-here : (P : Problem) (bytes : List ℕ) (place : ℕ) (s : Stage) (d : Derivation) → IsReadTo P bytes place s d → IsBegun P (lines_read P s d)
+pub begun-here : (P : Problem) (bytes : List ℕ) (place : ℕ) (s : Stage) (d : Derivation) → IsReadTo P bytes place s d → IsBegun (derivation_texts One P) (lines_read P s d)
 begun-here P bytes place Ended d r = record {
   whose = d;
   printable = printable-at P bytes place Ended d r;
@@ -101,7 +103,7 @@ begun-here P bytes place (Spares n) d r = record { whose = d; printable = printa
 begun-here P bytes place Steps d r = record { whose = d; printable = printable-at P bytes place Steps d r; rest = codes "end" ∷ []; all = open-lines P d }
 
 -- the whole text is read
-pub text-read : (P : Problem) (bytes : List ℕ) (place : ℕ) (d : Derivation) → IsReadTo P bytes place Ended d → place ≡ length bytes → IsText P d bytes
+pub text-read : (P : Problem) (bytes : List ℕ) (place : ℕ) (d : Derivation) → IsReadTo P bytes place Ended d → place ≡ length bytes → IsTextIn One P d bytes
 text-read P bytes place d r e = record {
   printable = printable-at P bytes place Ended d r;
   text = r.lines.text
@@ -118,9 +120,9 @@ text-read P bytes place d r e = record {
 
 -- the next line may not stand here
 pub fault-at_line : (P : Problem) → IsTrue (is_problem P) → (bytes : List ℕ) (place to : ℕ) (s : Stage) (d : Derivation) (l : List ℕ) → IsReadTo P bytes place s d → IsLineAt bytes place to l
-    → ((x : BodyLine) → IsBodyLine P.symbols l x → stage_after s x ≡ None) → IsFaulty P bytes (length (lines_read P s d))
+    → ((x : BodyLine) → IsBodyLine P.symbols l x → stage_after s x ≡ None) → IsFaulty (derivation_texts One P) bytes (length (lines_read P s d))
 fault-at_line P w bytes place to s d l r here none =
-    faulty P w bytes (lines_read P s d) (l ∷ whole_lines (drop to bytes)) (r.lines.whole ∙ ap (λ k. lines_read P s d ++ k) here.whole) (begun-here P bytes place s d r) next done
+    faulty (derivation_texts One P) (lines-feed P w) bytes (lines_read P s d) (l ∷ whole_lines (drop to bytes)) (r.lines.whole ∙ ap (λ k. lines_read P s d ++ k) here.whole) (begun-here P bytes place s d r) next done
   where
     next : (e : Derivation) → IsTrue (is_printable P e) → (k : List ℕ) (rest more : List (List ℕ)) → derivation_lines P e ≡ lines_read P s d ++ k ∷ rest → l ∷ whole_lines (drop to bytes) ≡ k ∷ more → ⊥
     next e printable k rest more same first =
@@ -130,19 +132,19 @@ fault-at_line P w bytes place to s d l r here none =
     no_more [] b e = cc
     no_more (x ∷ a) b e = cc
 
-    done : (e : Derivation) → IsText P e bytes → derivation_lines P e ≡ lines_read P s d → ⊥
+    done : (e : Derivation) → IsTextIn One P e bytes → derivation_lines P e ≡ lines_read P s d → ⊥
     done e t same = no_more l (drop to bytes) (sym here.text ∙ nothing-after bytes (flat_map line_bytes (lines_read P s d)) (drop place bytes) r.lines.text (t.text ∙ ap (flat_map line_bytes) same))
 
 -- no whole line follows, and the text has not ended as it should
 pub fault-at_end : (P : Problem) → IsTrue (is_problem P) → (bytes : List ℕ) (place : ℕ) (s : Stage) (d : Derivation) → IsReadTo P bytes place s d → whole_lines (drop place bytes) ≡ []
-    → (s ≡ Ended → drop place bytes ≡ [] → ⊥) → IsFaulty P bytes (length (lines_read P s d))
+    → (s ≡ Ended → drop place bytes ≡ [] → ⊥) → IsFaulty (derivation_texts One P) bytes (length (lines_read P s d))
 fault-at_end P w bytes place s d r none unfinished =
-    faulty P w bytes (lines_read P s d) [] (r.lines.whole ∙ ap (λ k. lines_read P s d ++ k) none) (begun-here P bytes place s d r) next done
+    faulty (derivation_texts One P) (lines-feed P w) bytes (lines_read P s d) [] (r.lines.whole ∙ ap (λ k. lines_read P s d ++ k) none) (begun-here P bytes place s d r) next done
   where
     next : (e : Derivation) → IsTrue (is_printable P e) → (k : List ℕ) (rest more : List (List ℕ)) → derivation_lines P e ≡ lines_read P s d ++ k ∷ rest → [] ≡ k ∷ more → ⊥
     next e printable k rest more same first = cc first
 
-    done : (e : Derivation) → IsText P e bytes → derivation_lines P e ≡ lines_read P s d → ⊥
+    done : (e : Derivation) → IsTextIn One P e bytes → derivation_lines P e ≡ lines_read P s d → ⊥
     done e t same = unfinished
         (whole-ends P w d.limit (lines_at s d) s r.written r.order e t.printable same)
         (nothing-after bytes (flat_map line_bytes (lines_read P s d)) (drop place bytes) r.lines.text (t.text ∙ ap (flat_map line_bytes) same))
@@ -194,33 +196,41 @@ texts S d =
           ∙ ap (λ b. b || true) (no-end S d.names.eigens d.names.spares d.steps);
     }
 
-cause-open : (ends names : Bool) (next : Option (List ℕ)) (c : TextCause) → ends ≡ false → cause_among_names names next ≡ c → (if ends then cause.TextAfterEnd else cause_among_names names next) ≡ c
-cause-open ends names next c e f = rw e f
-
-cause-closed : (ends names : Bool) (next : Option (List ℕ)) → ends ≡ true → (if ends then cause.TextAfterEnd else cause_among_names names next) ≡ cause.TextAfterEnd
-cause-closed ends names next e = rw e refl
+cause-open : (ends : Bool) (before : List (List ℕ)) (next : Option (List ℕ)) (c : TextCause) → ends ≡ false → cause_in_body One before next ≡ c → (if ends then cause.TextAfterEnd else cause_in_body One before next) ≡ c
+cause-open ends before next c e f = rw e f
 
 some-steps : (S : List Symbol) (xs : List Step) → xs ≢ [] → list_all is_name_line (map (step_line S) xs) ≡ false
 some-steps S [] h = absurd (h refl)
 some-steps S (x ∷ xs) h = rw (step-names_not S x) refl
 
-not-names : (b : Bool) (next : Option (List ℕ)) → b ≡ false → cause_among_names b next ≡ cause.Line
-not-names b next e = rw e refl
+not-names : (before : List (List ℕ)) (next : Option (List ℕ)) → list_all is_name_line before ≡ false → cause_in_body One before next ≡ cause.Line
+not-names before None e = refl
+not-names before (Some l) e = ap (λ b. if b && is_name_line l then cause.Name else cause.Line) e
 
-all-names : (b : Bool) (next : Option (List ℕ)) → b ≡ true → cause_among_names b next ≡ cause_among_names true next
-all-names b next e = rw e refl
+all-names : (before : List (List ℕ)) (next : Option (List ℕ)) → list_all is_name_line before ≡ true → cause_in_body One before next ≡ cause_in_body One [] next
+all-names before None e = refl
+all-names before (Some l) e = ap (λ b. if b && is_name_line l then cause.Name else cause.Line) e
 
-cause-of_lines : (P : Problem) (s : Stage) (d : Derivation) (next : Option (List ℕ)) → Fits s d → cause_after (lines_read P s d) next ≡ cause_at_stage s next
-cause-of_lines P (Eigens n) d next f = let t = texts P.symbols d in cause-open _ _ next (cause_among_names true next) t.open_end (all-names _ next (t.names ∙ ap (λ xs. list_all is_name_line (map (step_line P.symbols) xs)) f.1))
-cause-of_lines P (Spares n) d next f = let t = texts P.symbols d in cause-open _ _ next (cause_among_names true next) t.open_end (all-names _ next (t.names ∙ ap (λ xs. list_all is_name_line (map (step_line P.symbols) xs)) f))
-cause-of_lines P Steps d next f = let t = texts P.symbols d in cause-open _ _ next cause.Line t.open_end (not-names _ next (t.names ∙ some-steps P.symbols d.steps f))
-cause-of_lines P Ended d next f = let t = texts P.symbols d in cause-closed _ _ next t.closed_end
+-- the lines of a body that goes on
+abbrev open_body : List Symbol → Derivation → List (List ℕ)
+open_body S d = map (body_line_text S) (names_and_steps d.names.eigens d.names.spares d.steps ++ [])
 
-pub cause-at_stage : (P : Problem) (bytes : List ℕ) (place : ℕ) (s : Stage) (d : Derivation) → IsReadTo P bytes place s d → cause_at bytes (length (lines_read P s d)) ≡ cause_at_stage s (slice_get (whole_lines (drop place bytes)) 0)
-cause-at_stage P bytes place s d r =
-    let seen = lines_read P s d in
-    let tail = whole_lines (drop place bytes) in
-    ap (λ k. cause_after (take (length seen) k) (slice_get k (length seen))) r.lines.whole
-    ∙ ap (λ k. cause_after k (slice_get (seen ++ tail) (length seen))) (take-append_seam seen tail)
-    ∙ ap (cause_after seen) (item-after seen tail)
-    ∙ cause-of_lines P s d (slice_get tail 0) r.fits
+cause-of_lines : (P : Problem) (s : Stage) (d : Derivation) (next : Option (List ℕ)) → Fits s d → cause_after (text_causes One) (lines_read P s d) next ≡ cause_at_stage s next
+cause-of_lines P (Eigens n) d next f =
+    let t = texts P.symbols d in
+    let ls = open_body P.symbols d in
+    cause-open (list_any is_end_line ls) ls next (cause_in_body One [] next) t.open_end (all-names ls next (t.names ∙ ap (λ xs. list_all is_name_line (map (step_line P.symbols) xs)) f.1))
+cause-of_lines P (Spares n) d next f =
+    let t = texts P.symbols d in
+    let ls = open_body P.symbols d in
+    cause-open (list_any is_end_line ls) ls next (cause_in_body One [] next) t.open_end (all-names ls next (t.names ∙ ap (λ xs. list_all is_name_line (map (step_line P.symbols) xs)) f))
+cause-of_lines P Steps d next f =
+    let t = texts P.symbols d in
+    let ls = open_body P.symbols d in
+    cause-open (list_any is_end_line ls) ls next cause.Line t.open_end (not-names ls next (t.names ∙ some-steps P.symbols d.steps f))
+cause-of_lines P Ended d next f =
+    let ls = map (body_line_text P.symbols) (names_and_steps d.names.eigens d.names.spares d.steps ++ last ∷ []) in
+    ap (λ b. if b then cause.TextAfterEnd else cause_in_body One ls next) (texts P.symbols d).closed_end
+
+pub cause-at_stage : (P : Problem) (bytes : List ℕ) (place : ℕ) (s : Stage) (d : Derivation) → IsReadTo P bytes place s d → cause_at (text_causes One) bytes (length (lines_read P s d)) ≡ cause_at_stage s (slice_get (whole_lines (drop place bytes)) 0)
+cause-at_stage P bytes place s d r = cause-behind (text_causes One) bytes (lines_read P s d) (whole_lines (drop place bytes)) r.lines.whole ∙ cause-of_lines P s d (slice_get (whole_lines (drop place bytes)) 0) r.fits

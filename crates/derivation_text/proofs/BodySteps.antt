@@ -6,7 +6,8 @@ use Rattle.std.proofs.lemmas.List.Folds.{list_all-append}
 use Rattle.plain_laws.proofs.Lists.{map-append}
 use Rattle.calculus.specs.Syntax.{Problem}
 use Rattle.calculus.specs.Derivations.{EigenName, SpareName, Step, Derivation}
-use Rattle.calculus.specs.DerivationText.{head_lines, is_limit, line_bytes}
+use Rattle.calculus.specs.DerivationText.{head_lines, is_limit}
+use Rattle.calculus.specs.FirstWrong.{line_bytes}
 use Rattle.derivation_text.specs.declared.body_line.Stage.{Stage}
 use Rattle.derivation_text.specs.declared.body_line.Stage.TheVariants.{Eigens, Spares, Steps, Ended}
 use Rattle.derivation_text.specs.Body.{BodyLine, of_eigen, of_spare, of_step, last, IsBodyLine, body_line_text, body_line_is_written, stage_after, stage_after_lines, names_and_steps}

@@ -3,7 +3,7 @@ use Rattle.std.proofs.Common.{if◌then◌else◌, ◌≡◌, ◌≢◌, ℕ, ze
 use Rattle.std.specs.List.{list_all, common_prefix_len}
 use Rattle.std.proofs.lemmas.Bool.{and_parts, true≢false}
 use Rattle.std.proofs.lemmas.List.{drop_all}
-use Rattle.calculus.specs.DerivationText.{line_bytes}
+use Rattle.calculus.specs.FirstWrong.{line_bytes}
 use Rattle.calculus.specs.Equality.{list_eq}
 use Rattle.text_lines.proofs.LineFeeds.{AreNoFeeds, NoFeed, is_no_feed}
 use Rattle.derivation_text.specs.Difference.{line_of_difference}

@@ -1,23 +1,22 @@
 -- The faults of texts of both versions.
-use Rattle.std.proofs.Common.{◌≡◌, ◌≢◌, inl, inr, ℕ, List, true, false, IsTrue, Result, Err, refl, sym, ◌∙◌, ap, subst, arith}
+use Rattle.std.proofs.Common.{◌≡◌, ◌≢◌, inl, ℕ, List, true, false, IsTrue, Result, Err, refl, sym, ◌∙◌, ap, subst, arith, if◌then◌else◌}
 use Rattle.calculus.specs.declared.fault.CheckFault.TheVariants.{Text as InText}
 use Rattle.calculus.specs.declared.fault.TextCause.{TextCause}
 use Rattle.calculus.specs.declared.fault.TextCause.TheVariants as cause
-use Rattle.calculus.specs.declared.version.Version.TheVariants.{Two}
+use Rattle.calculus.specs.declared.version.Version.TheVariants.{Two, One}
 use Rattle.calculus.specs.Syntax.{Problem}
 use Rattle.calculus.specs.Problems.{are_distinct, is_problem}
 use Rattle.calculus.specs.DerivationText.{is_printable}
 use Rattle.calculus.specs.Judgement.{rejected}
-use Rattle.calculus.specs.Versions.{IsTextIn, NumberedDerivation, lines_in, numbered_lines, numbering, stated}
-use Rattle.calculus.specs.VersionJudgement.{IsNumberedText, IsVersionJudgement, IsWrongOne, IsWrongTable, IsWrongTwo, is_version_one}
+use Rattle.calculus.specs.Versions.{IsTextIn, NumberedDerivation, lines_in, numbered_lines, numbering, stated, IsNumberedText}
+use Rattle.calculus.specs.VersionJudgement.{IsVersionJudgement, IsWrongTable, is_version_one, IsWrongForm, IsTextFault}
+use Rattle.calculus.specs.declared.version.Version.{Version}
 use Rattle.calculus.proofs.VersionJudgementLaws.{version_judgement-unique}
 use Rattle.calculus.proofs.VersionLaws.{numbered-unique, printable-written, stated-numbering, text_in-unique}
 use Rattle.logic_rules.proofs.ProblemFacts.{kept}
 use Rattle.derivation_text.specs.declared.fault.ParseFault.{ParseFault}
 use Rattle.derivation_text.specs.declared.fault.ParseFault.TheVariants.{Text}
 use Rattle.derivation_text.specs.Difference.{line_of_difference}
-use Rattle.derivation_text.specs.NumberedReading.{IsNumberedFaultOf, IsTextFault}
-use Rattle.derivation_text.specs.Reading.{IsFaultOf}
 use Rattle.derivation_text.specs.Single.{AtMostOneInVersion, AtMostOneTextFault}
 use Rattle.derivation_text.proofs.DifferenceLaws.{lines-differ}
 use Rattle.derivation_text.proofs.NumberedFeeds.{numbered-feed}
@@ -25,9 +24,7 @@ use Rattle.derivation_text.proofs.NumberedFeeds.{numbered-feed}
 -- ---- at most one
 
 judged : (P : Problem) (bytes : List ℕ) (line : ℕ) (why : TextCause) → IsTextFault P bytes line why → IsVersionJudgement P bytes (rejected line (InText why))
-judged P bytes line why (inl f) = inl f
-judged P bytes line why (inr (inl f)) = inr (inl f)
-judged P bytes line why (inr (inr f)) = inr (inr (inl f))
+judged P bytes line why f = inl (why, refl, f)
 
 pub one-fault : (P : Problem) → IsTrue (are_distinct P.symbols) → (bytes : List ℕ) → AtMostOneTextFault P bytes
 one-fault P distinct bytes m n why other f g =
@@ -41,11 +38,14 @@ one-text P distinct bytes v w d e t u = text_in-unique P distinct v w d e bytes 
 
 -- ---- by the version
 
-pub wrong-one : (P : Problem) (bytes : List ℕ) (line : ℕ) (why : TextCause) → is_version_one bytes ≡ true → IsFaultOf P bytes line why → IsWrongOne P bytes line (InText why)
-wrong-one P bytes line why one f = record { one = one; right_lines = f.0; faulty = f.2; place = f.1; cause = ap InText f.3 }
+in-form : (z : Version) (P : Problem) (bytes : List ℕ) (line : ℕ) (why : TextCause) → (if is_version_one bytes then One else Two) ≡ z → IsWrongForm z P bytes line why → IsTextFault P bytes line why
+in-form z P bytes line why e f = inl (subst (λ v. IsWrongForm v P bytes line why) (sym e) f)
 
-pub wrong-two : (P : Problem) (bytes : List ℕ) (line : ℕ) (why : TextCause) → is_version_one bytes ≡ false → IsNumberedFaultOf P bytes line why → IsWrongTwo P bytes line (InText why)
-wrong-two P bytes line why two f = record { two = two; right_lines = f.0; faulty = f.2; place = f.1; cause = ap InText f.3 }
+pub wrong-one : (P : Problem) (bytes : List ℕ) (line : ℕ) (why : TextCause) → is_version_one bytes ≡ true → IsWrongForm One P bytes line why → IsTextFault P bytes line why
+wrong-one P bytes line why one f = in-form One P bytes line why (ap (λ b. if b then One else Two) one) f
+
+pub wrong-two : (P : Problem) (bytes : List ℕ) (line : ℕ) (why : TextCause) → is_version_one bytes ≡ false → IsWrongForm Two P bytes line why → IsTextFault P bytes line why
+wrong-two P bytes line why two f = in-form Two P bytes line why (ap (λ b. if b then One else Two) two) f
 
 -- ---- the table
 
@@ -64,14 +64,14 @@ again-text P x y text e t = subst (λ d. IsTextIn Two P d text) (same-stated x y
 
 -- numbers whose text is that of the derivation that they state
 pub in-order_by_text : (P : Problem) → IsTrue (is_problem P) → (x : NumberedDerivation) (bytes text : List ℕ) → IsNumberedText P x bytes → IsTextIn Two P (stated x) text → bytes ≡ text → x ≡ numbering (stated x)
-in-order_by_text P w x bytes text t u e = numbered-unique P (kept P w).distinct x (numbering (stated x)) t.written (printable-written P (stated x) u.printable) (sym t.text ∙ e ∙ u.text)
+in-order_by_text P w x bytes text t u e = numbered-unique P (kept P w).distinct x (numbering (stated x)) t.printable (printable-written P (stated x) u.printable) (sym t.text ∙ e ∙ u.text)
 
 pub wrong-table : (P : Problem) → IsTrue (is_problem P) → (bytes text : List ℕ) (x : NumberedDerivation) (line : ℕ) → IsNumberedText P x bytes → IsTextIn Two P (stated x) text → line ≡ line_of_difference 1 bytes text → bytes ≢ text
-    → IsWrongTable P bytes line (InText cause.Table)
+    → IsWrongTable P bytes line cause.Table
 wrong-table P w bytes text x line t u at other =
     let ls = numbered_lines P x in
     let ms = lines_in Two P (stated x) in
-    let differ = lines-differ 1 ls ms (numbered-feed P w x t.written) (numbered-feed P w (numbering (stated x)) (printable-written P (stated x) u.printable)) in
+    let differ = lines-differ 1 ls ms (numbered-feed P w x t.printable) (numbered-feed P w (numbering (stated x)) (printable-written P (stated x) u.printable)) in
     record {
       numbers = x;
       states = t;
@@ -81,8 +81,8 @@ wrong-table P w bytes text x line t u at other =
     }
 
 -- a fault by the answer that tells it
-pub told-table : {A : Type 0} (P : Problem) (bytes : List ℕ) (m line : ℕ) (c why : TextCause) → ◌≡◌ {A = Result A ParseFault} (Err (Text m c)) (Err (Text line why)) → IsWrongTable P bytes m (InText c) → IsWrongTable P bytes line (InText why)
+pub told-table : {A : Type 0} (P : Problem) (bytes : List ℕ) (m line : ℕ) (c why : TextCause) → ◌≡◌ {A = Result A ParseFault} (Err (Text m c)) (Err (Text line why)) → IsWrongTable P bytes m c → IsWrongTable P bytes line why
 told-table P bytes m line c why e f =
     let a : m ≡ line = cc e in
     let b : c ≡ why = cc e in
-    record { numbers = f.numbers; states = f.states; other = f.other; place = sym a ∙ f.place; cause = ap InText (sym b) ∙ f.cause }
+    record { numbers = f.numbers; states = f.states; other = f.other; place = sym a ∙ f.place; cause = sym b ∙ f.cause }

@@ -12,8 +12,7 @@
 -- `derivation_text::read`: lines after the head are values of one type (`BodyLine`) with one law that they determine their values
 -- (`BodyLaws.body_line-unique`); their order is one function, `stage_after`. Each reader of a part or a line is exact. The loop keeps
 -- `IsReadTo`: the names and steps so far are those of the lines so far (`printable-so_far`: written lines in order begin a printable
--- derivation). `Faults.faulty` is `first-wrong` for `IsFaulty`; `HeadFaults` leads to it from a wrong line of the head, `BodyFaults` from
--- one behind it.
+-- derivation). `HeadFaults` tells the first wrong line in the head, of either version, `BodyFaults` one behind it.
 --
 -- *Both versions are read into numbers.* `NumberingLaws.put-line`: a line of version 1 more, put behind a derivation with its numbers, is
 -- the longer derivation with its numbers, since a label or a term gets the next number where it comes first (`OnceLaws.once-end`,
@@ -38,7 +37,6 @@ pub mod TermWritingLaws
 pub mod Printable
 pub mod BodyLaws
 pub mod LineFeeds
-pub mod Faults
 pub mod BodyFaults
 pub mod HeadFaults
 pub mod BodySteps
@@ -51,7 +49,6 @@ mod RenumberingLaws
 pub mod NumberingLaws
 pub mod OrderLaws
 pub mod NumberedFeeds
-pub mod NumberedFaults
 pub mod NumberedBodyLaws
 pub mod NumberedStages
 pub mod NumberedEnds
@@ -61,7 +58,6 @@ pub mod NumberedCauses
 pub mod NumberedArgs
 pub mod DifferenceLaws
 pub mod StatedLaws
-pub mod NumberedHeads
 pub mod NumberedSteps
 pub mod GreatestLaws
 pub mod GrowingLaws

@@ -1,16 +1,16 @@
 -- The causes of faults in texts of version 2, by the lines that have been read.
-use Rattle.std.proofs.Common.{◌≡◌, ◌≢◌, ℕ, suc, List, [], ◌∷◌, ◌++◌, length, map, take, drop, Bool, true, false, ◌&&◌, ◌||◌, Option, None, Some, refl, ◌∙◌, ap, append-nil, slice_get, if◌then◌else◌}
+use Rattle.std.proofs.Common.{◌≡◌, ◌≢◌, ℕ, suc, List, [], ◌∷◌, ◌++◌, length, map, drop, Bool, true, false, ◌&&◌, ◌||◌, Option, None, Some, refl, ◌∙◌, ap, append-nil, slice_get, if◌then◌else◌}
 use Rattle.std.specs.List.{list_all, list_any}
 use Rattle.std.proofs.lemmas.List.Folds.{list_all-append, list_any-append}
-use Rattle.std.proofs.Math.Seq.{take-append_seam}
-use Rattle.plain_laws.proofs.Places.{item-after}
 use Rattle.plain_laws.proofs.Lists.{map-append}
 use Rattle.calculus.specs.declared.fault.TextCause.TheVariants as cause
 use Rattle.calculus.specs.Syntax.{Symbol, Term, Problem}
 use Rattle.calculus.specs.Derivations.{Label}
-use Rattle.calculus.specs.Judgement.{is_end_line, is_name_line, whole_lines}
+use Rattle.calculus.specs.FirstWrong.{is_end_line, whole_lines, cause_after, cause_at}
 use Rattle.calculus.specs.Versions.{NumberedDerivation, NumberedStep, numbered_use, numbered_axiom}
-use Rattle.calculus.specs.VersionJudgement.{cause_in_body, is_label_line, is_term_line, numbered_cause_after, numbered_cause_at}
+use Rattle.calculus.specs.VersionJudgement.{cause_in_body, is_label_line, is_term_line, is_name_line, text_causes}
+use Rattle.calculus.specs.declared.version.Version.TheVariants.{Two}
+use Rattle.text_lines.proofs.FirstWrong.{cause-behind}
 use Rattle.derivation_text.specs.declared.numbered_line.NumberedStage.{NumberedStage}
 use Rattle.derivation_text.specs.declared.numbered_line.Part.{Part}
 use Rattle.derivation_text.specs.declared.numbered_line.Part.TheVariants.{Labels, Eigens, Spares, Terms, Steps, Ended}
@@ -184,7 +184,7 @@ front-ends_not S x =
 
 -- ---- causes
 
-in-body : (S : List Symbol) (p : Part) (x : NumberedDerivation) (next : Option (List ℕ)) → FitsPart p x → goes_on p ≡ true → cause_in_body (map (numbered_line_text S) (front_lines x)) next ≡ cause_in_part p next
+in-body : (S : List Symbol) (p : Part) (x : NumberedDerivation) (next : Option (List ℕ)) → FitsPart p x → goes_on p ≡ true → cause_in_body Two (map (numbered_line_text S) (front_lines x)) next ≡ cause_in_part p next
 in-body S p x None f g = refl
 in-body S p x (Some l) f g = λ i.
     if is_label_line l && label-lines S p x f g i then cause.Label
@@ -193,12 +193,12 @@ in-body S p x (Some l) f g = λ i.
     else cause.Line))
 
 open-cause : (S : List Symbol) (p : Part) (x : NumberedDerivation) (next : Option (List ℕ)) → FitsPart p x → goes_on p ≡ true
-    → (if any_ends S (front_lines x ++ []) then cause.TextAfterEnd else cause_in_body (map (numbered_line_text S) (front_lines x ++ [])) next) ≡ cause_in_part p next
+    → (if any_ends S (front_lines x ++ []) then cause.TextAfterEnd else cause_in_body Two (map (numbered_line_text S) (front_lines x ++ [])) next) ≡ cause_in_part p next
 open-cause S p x next f g =
-    ap (λ ls. if any_ends S ls then cause.TextAfterEnd else cause_in_body (map (numbered_line_text S) ls) next) (append-nil (front_lines x))
-    ∙ ap (λ b. if b then cause.TextAfterEnd else cause_in_body (map (numbered_line_text S) (front_lines x)) next) (front-ends_not S x) ∙ in-body S p x next f g
+    ap (λ ls. if any_ends S ls then cause.TextAfterEnd else cause_in_body Two (map (numbered_line_text S) ls) next) (append-nil (front_lines x))
+    ∙ ap (λ b. if b then cause.TextAfterEnd else cause_in_body Two (map (numbered_line_text S) (front_lines x)) next) (front-ends_not S x) ∙ in-body S p x next f g
 
-cause-of_lines : (P : Problem) (p : Part) (x : NumberedDerivation) (next : Option (List ℕ)) → FitsPart p x → numbered_cause_after (numbered_lines_read P p x) next ≡ numbered_cause_at_stage p next
+cause-of_lines : (P : Problem) (p : Part) (x : NumberedDerivation) (next : Option (List ℕ)) → FitsPart p x → cause_after (text_causes Two) (numbered_lines_read P p x) next ≡ numbered_cause_at_stage p next
 cause-of_lines P Labels x next f = open-cause P.symbols Labels x next f refl
 cause-of_lines P (Eigens n) x next f = open-cause P.symbols (Eigens n) x next f refl
 cause-of_lines P (Spares n) x next f = open-cause P.symbols (Spares n) x next f refl
@@ -206,15 +206,9 @@ cause-of_lines P Terms x next f = open-cause P.symbols Terms x next f refl
 cause-of_lines P Steps x next f = open-cause P.symbols Steps x next f refl
 cause-of_lines P Ended x next f =
     let S = P.symbols in
-    ap (λ b. if b then cause.TextAfterEnd else cause_in_body (map (numbered_line_text S) (front_lines x ++ last_line ∷ [])) next)
+    ap (λ b. if b then cause.TextAfterEnd else cause_in_body Two (map (numbered_line_text S) (front_lines x ++ last_line ∷ [])) next)
     (any-join S (front_lines x) (last_line ∷ []) ∙ ap (λ b. b || true) (front-ends_not S x))
 
 pub cause-at_part : (P : Problem) (bytes : List ℕ) (place : ℕ) (s : NumberedStage) (x : NumberedDerivation) → IsNumberedTo P bytes place s x
-    → numbered_cause_at bytes (length (numbered_lines_read P s.part x)) ≡ numbered_cause_at_stage s.part (slice_get (whole_lines (drop place bytes)) 0)
-cause-at_part P bytes place s x r =
-    let seen = numbered_lines_read P s.part x in
-    let tail = whole_lines (drop place bytes) in
-    ap (λ k. numbered_cause_after (take (length seen) k) (slice_get k (length seen))) r.lines.whole
-    ∙ ap (λ k. numbered_cause_after k (slice_get (seen ++ tail) (length seen))) (take-append_seam seen tail)
-    ∙ ap (numbered_cause_after seen) (item-after seen tail)
-    ∙ cause-of_lines P s.part x (slice_get tail 0) r.fits
+    → cause_at (text_causes Two) bytes (length (numbered_lines_read P s.part x)) ≡ numbered_cause_at_stage s.part (slice_get (whole_lines (drop place bytes)) 0)
+cause-at_part P bytes place s x r = cause-behind (text_causes Two) bytes (numbered_lines_read P s.part x) (whole_lines (drop place bytes)) r.lines.whole ∙ cause-of_lines P s.part x (slice_get (whole_lines (drop place bytes)) 0) r.fits

@@ -1,19 +1,17 @@
 -- Texts in the form of version 2 as texts of lines that stages order: what has been read of one, and where it is wrong first.
-use Rattle.std.proofs.Common.{◌≡◌, ℕ, ◌+◌, List, [], ◌∷◌, ◌++◌, length, map, drop, true, IsTrue, Option, None, Some, refl, sym, ◌∙◌, ap, subst, append_assoc, append-nil, flat_map}
+use Rattle.std.proofs.Common.{◌≡◌, ℕ, List, [], ◌∷◌, ◌++◌, length, map, drop, true, IsTrue, Option, None, Some, refl, sym, ◌∙◌, ap, subst, append_assoc, append-nil, flat_map}
 use Rattle.std.specs.List.{list_all}
 use Rattle.std.proofs.lemmas.Bool.{and_from, and_parts}
 use Rattle.std.proofs.lemmas.List.Folds.{list_all-append}
 use Rattle.plain_laws.proofs.Lists.{map-append}
 use Rattle.calculus.specs.Syntax.{Problem}
 use Rattle.calculus.specs.Problems.{is_problem}
-use Rattle.calculus.specs.DerivationText.{is_limit, line_bytes}
-use Rattle.calculus.specs.Judgement.{whole_lines}
-use Rattle.calculus.specs.Versions.{NumberedDerivation, is_written, numbered_head, numbered_lines}
-use Rattle.calculus.specs.VersionJudgement.{IsNumberedFaulty, IsNumberedText, IsNumberedUpTo}
+use Rattle.calculus.specs.DerivationText.{is_limit}
+use Rattle.calculus.specs.FirstWrong.{line_bytes, whole_lines, IsFaulty}
+use Rattle.calculus.specs.Versions.{NumberedDerivation, is_written, numbered_head, numbered_lines, IsNumberedText, numbered_texts}
 use Rattle.logic_rules.proofs.ProblemFacts.{kept}
 use Rattle.text_lines.specs.Lines.{AreRead, IsLineAt}
-use Rattle.text_lines.proofs.FirstWrong.{IsFirstWrong, IsRightUpTo}
-use Rattle.text_lines.proofs.StagedLines.{AreReadTo, Has, IsKind, Kind, run, wrong-end, wrong-line}
+use Rattle.text_lines.proofs.StagedLines.{AreReadTo, IsKind, Kind, run, wrong-end, wrong-line}
 use Rattle.text_lines.proofs.WholeLines.{more-read}
 use Rattle.derivation_text.specs.declared.numbered_line.NumberedStage.{NumberedStage}
 use Rattle.derivation_text.specs.declared.numbered_line.Part.{Part}
@@ -30,8 +28,7 @@ use Rattle.derivation_text.proofs.NumberedStages.{run-append, run-none, written-
 
 abbrev pub kind_two : Problem → Kind NumberedDerivation NumberedLine NumberedStage
 kind_two P = record {
-  has = is_written P;
-  lines = numbered_lines P;
+  texts = numbered_texts P;
   head = λ (x : NumberedDerivation). numbered_head P x.limit;
   body = numbered_body;
   text = numbered_line_text P.symbols;
@@ -100,7 +97,7 @@ are-read P bytes place s x r = record {
   lines = r.lines;
   good = r.written;
   order = run-same P (Some first_stage) (numbered_lines_at s.part x) ∙ r.order;
-  begun = record { whose = x; has = written-at P bytes place s x r; rest = map (numbered_line_text P.symbols) (behind s.part); all = all-lines P s.part x };
+  begun = record { whose = x; printable = written-at P bytes place s x r; rest = map (numbered_line_text P.symbols) (behind s.part); all = all-lines P s.part x };
   heads = λ d h. refl;
 }
 
@@ -140,37 +137,22 @@ read-more P bytes place to s t x l line r here is e =
 
 -- ---- faults
 
-faulty-of : (P : Problem) (bytes : List ℕ) (n : ℕ) → IsFirstWrong (Has (kind_two P)) (numbered_lines P) bytes n → IsNumberedFaulty P bytes n
-faulty-of P bytes n r = record {
-  right = (r.right.0, to n r.right.0 r.right.1);
-  wrong = λ q. r.wrong (q.0, back (n + 1) q.0 q.1);
-  no_text = λ x t. r.no_text x t.written t.text;
-}
-  where
-    to : (m : ℕ) (x : NumberedDerivation) → IsRightUpTo (Has (kind_two P)) (numbered_lines P) bytes m x → IsNumberedUpTo P bytes m x
-    to m x h = record { written = h.has; are_there = h.are_there; has_them = h.has_them; same = h.same }
-
-    back : (m : ℕ) (x : NumberedDerivation) → IsNumberedUpTo P bytes m x → IsRightUpTo (Has (kind_two P)) (numbered_lines P) bytes m x
-    back m x h = record { has = h.written; are_there = h.are_there; has_them = h.has_them; same = h.same }
-
 -- the next line may not stand here
 pub fault-at_line : (P : Problem) → IsTrue (is_problem P) → (bytes : List ℕ) (place to : ℕ) (s : NumberedStage) (x : NumberedDerivation) (line : List ℕ) → IsNumberedTo P bytes place s x → IsLineAt bytes place to line
-    → ((l : NumberedLine) → IsNumberedLine P.symbols line l → numbered_stage_after s l ≡ None) → IsNumberedFaulty P bytes (length (numbered_lines_read P s.part x))
+    → ((l : NumberedLine) → IsNumberedLine P.symbols line l → numbered_stage_after s l ≡ None) → IsFaulty (numbered_texts P) bytes (length (numbered_lines_read P s.part x))
 fault-at_line P w bytes place to s x line r here none =
-    faulty-of P bytes (length (numbered_lines_read P s.part x))
-    (wrong-line (kind_two P) (is-kind_two P w) bytes place to s (numbered_head P x.limit) (numbered_lines_at s.part x) line (are-read P bytes place s x r) here (λ l h. none l (record { written = h.good; same = h.same })))
+    wrong-line (kind_two P) (is-kind_two P w) bytes place to s (numbered_head P x.limit) (numbered_lines_at s.part x) line (are-read P bytes place s x r) here (λ l h. none l (record { written = h.good; same = h.same }))
 
 -- no whole line follows, and the text has not ended as it should
 pub fault-at_end : (P : Problem) → IsTrue (is_problem P) → (bytes : List ℕ) (place : ℕ) (s : NumberedStage) (x : NumberedDerivation) → IsNumberedTo P bytes place s x → whole_lines (drop place bytes) ≡ []
-    → (s ≡ ended_stage → drop place bytes ≡ [] → ⊥) → IsNumberedFaulty P bytes (length (numbered_lines_read P s.part x))
+    → (s ≡ ended_stage → drop place bytes ≡ [] → ⊥) → IsFaulty (numbered_texts P) bytes (length (numbered_lines_read P s.part x))
 fault-at_end P w bytes place s x r none unfinished =
-    faulty-of P bytes (length (numbered_lines_read P s.part x))
-    (wrong-end (kind_two P) (is-kind_two P w) bytes place s (numbered_head P x.limit) (numbered_lines_at s.part x) (are-read P bytes place s x r) none unfinished)
+    wrong-end (kind_two P) (is-kind_two P w) bytes place s (numbered_head P x.limit) (numbered_lines_at s.part x) (are-read P bytes place s x r) none unfinished
 
 -- the text has ended
 pub text-at_end : (P : Problem) (bytes : List ℕ) (place : ℕ) (s : NumberedStage) (x : NumberedDerivation) → IsNumberedTo P bytes place s x → s.part ≡ Ended → drop place bytes ≡ [] → IsNumberedText P x bytes
 text-at_end P bytes place s x r e d = record {
-  written = written-at P bytes place s x r;
+  printable = written-at P bytes place s x r;
   text = r.lines.text ∙ ap (λ l. flat_map line_bytes (numbered_lines_read P s.part x) ++ l) d ∙ append-nil (flat_map line_bytes (numbered_lines_read P s.part x))
       ∙ ap (λ p. flat_map line_bytes (numbered_lines_read P p x)) e ∙ ap (flat_map line_bytes) (sym (all-lines P Ended x ∙ append-nil (numbered_lines_read P Ended x)));
 }

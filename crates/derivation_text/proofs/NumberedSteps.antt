@@ -6,9 +6,9 @@ use Rattle.calculus.specs.declared.fault.TextCause.{TextCause}
 use Rattle.calculus.specs.declared.version.Version.TheVariants.{One, Two}
 use Rattle.calculus.specs.Syntax.{Problem}
 use Rattle.calculus.specs.Problems.{is_problem}
-use Rattle.calculus.specs.Judgement.{whole_lines}
-use Rattle.calculus.specs.Versions.{IsTextIn, NumberedDerivation, is_among, numbered_home_is_written, numbering, stated}
-use Rattle.calculus.specs.VersionJudgement.{IsNumberedText}
+use Rattle.calculus.specs.FirstWrong.{whole_lines}
+use Rattle.calculus.specs.Versions.{IsTextIn, NumberedDerivation, is_among, numbered_home_is_written, numbering, stated, IsNumberedText}
+use Rattle.calculus.specs.VersionJudgement.{IsWrongForm}
 use Rattle.calculus.proofs.VersionLaws.{stated-numbering}
 use Rattle.text_lines.specs.Lines.{IsLineAt}
 use Rattle.derivation_text.specs.declared.body_line.Stage.{Stage}
@@ -19,7 +19,7 @@ use Rattle.derivation_text.specs.Body.{BodyLine, IsBodyLine, stage_after}
 use Rattle.derivation_text.specs.Entering.{empty_of, put_line}
 use Rattle.derivation_text.specs.Listed.{are_listed}
 use Rattle.derivation_text.specs.NumberedBody.{IsNumberedLine, NumberedLine, label_of, eigen_of, spare_of, term_of, step_of, last_line, goes_on, is_behind, is_line_listed, last_eigen, last_spare, numbered_stage_after, with_numbered_line}
-use Rattle.derivation_text.specs.NumberedReading.{IsNumberedFaultOf, IsNumberedTo, first_stage, numbered_cause_at_stage}
+use Rattle.derivation_text.specs.NumberedReading.{IsNumberedTo, first_stage, numbered_cause_at_stage}
 use Rattle.derivation_text.specs.Reading.{IsHeadRead, IsReadTo, lines_read, with_line}
 use Rattle.derivation_text.proofs.BodySteps.{after-first, few}
 use Rattle.derivation_text.proofs.Endings.{body-step, text-at_end}
@@ -28,7 +28,6 @@ use Rattle.derivation_text.proofs.NumberedCauses.{cause-at_part}
 use Rattle.derivation_text.proofs.NumberedKind.{fault-at_end, fault-at_line, numbered_lines_read, read-lines, read-more}
 use Rattle.derivation_text.proofs.NumberedKind as kind
 use Rattle.derivation_text.proofs.NumberingLaws.{put-line}
-use Rattle.derivation_text.proofs.StatedLaws.{text-one}
 
 -- ---- version 1
 
@@ -54,7 +53,7 @@ entered-step P bytes place to s t x y l line count h here is after e =
     record { read = b.0; numbers = grown ∙ ap numbering (sym same); counted = b.1 }
 
 pub entered-text : (P : Problem) (bytes : List ℕ) (place : ℕ) (s : Stage) (x : NumberedDerivation) (count : ℕ) → IsEnteredTo P bytes place s x count → s ≡ AtEnd → place ≡ length bytes → IsTextIn One P (stated x) bytes
-entered-text P bytes place s x count h e f = text-one P (stated x) bytes (text-at_end P bytes place s (stated x) h.read e f)
+entered-text P bytes place s x count h e f = text-at_end P bytes place s (stated x) h.read e f
 
 -- ---- version 2
 
@@ -105,22 +104,22 @@ put-few P bytes place s x count h =
     omega (arith, f, n)
 
 pub put-fault_at_line : (P : Problem) → IsTrue (is_problem P) → (bytes : List ℕ) (place to : ℕ) (s : NumberedStage) (x : NumberedDerivation) (line : List ℕ) (count : ℕ) (c : TextCause) → IsPutTo P bytes place s x count → IsLineAt bytes place to line
-    → ((l : NumberedLine) → IsNumberedLine P.symbols line l → numbered_stage_after s l ≡ None) → c ≡ numbered_cause_at_stage s.part (Some line) → IsNumberedFaultOf P bytes (count + 1) c
-put-fault_at_line P w bytes place to s x line count c h here none why = (
-  length (numbered_lines_read P s.part x),
-  ap (λ k. k + 1) h.counted,
-  fault-at_line P w bytes place to s x line h.read here none,
-  why ∙ ap (λ (ls : List (List ℕ)). numbered_cause_at_stage s.part (slice_get ls 0)) (sym here.whole) ∙ sym (cause-at_part P bytes place s x h.read),
-)
+    → ((l : NumberedLine) → IsNumberedLine P.symbols line l → numbered_stage_after s l ≡ None) → c ≡ numbered_cause_at_stage s.part (Some line) → IsWrongForm Two P bytes (count + 1) c
+put-fault_at_line P w bytes place to s x line count c h here none why = record {
+  right_lines = length (numbered_lines_read P s.part x);
+  faulty = fault-at_line P w bytes place to s x line h.read here none;
+  place = ap (λ k. k + 1) h.counted;
+  cause = why ∙ ap (λ (ls : List (List ℕ)). numbered_cause_at_stage s.part (slice_get ls 0)) (sym here.whole) ∙ sym (cause-at_part P bytes place s x h.read);
+}
 
 pub put-fault_at_end : (P : Problem) → IsTrue (is_problem P) → (bytes : List ℕ) (place : ℕ) (s : NumberedStage) (x : NumberedDerivation) (count : ℕ) (c : TextCause) → IsPutTo P bytes place s x count → whole_lines (drop place bytes) ≡ []
-    → (s.part ≡ Ended → place ≡ length bytes → ⊥) → c ≡ numbered_cause_at_stage s.part None → IsNumberedFaultOf P bytes (count + 1) c
-put-fault_at_end P w bytes place s x count c h none unfinished why = (
-  length (numbered_lines_read P s.part x),
-  ap (λ k. k + 1) h.counted,
-  fault-at_end P w bytes place s x h.read none (λ e left. unfinished (ap (λ (t : NumberedStage). t.part) e) (let l = h.read.lines.within in let f = ap length left in omega (arith, l, f, length-drop place bytes))),
-  why ∙ ap (λ (ls : List (List ℕ)). numbered_cause_at_stage s.part (slice_get ls 0)) (sym none) ∙ sym (cause-at_part P bytes place s x h.read),
-)
+    → (s.part ≡ Ended → place ≡ length bytes → ⊥) → c ≡ numbered_cause_at_stage s.part None → IsWrongForm Two P bytes (count + 1) c
+put-fault_at_end P w bytes place s x count c h none unfinished why = record {
+  right_lines = length (numbered_lines_read P s.part x);
+  faulty = fault-at_end P w bytes place s x h.read none (λ e left. unfinished (ap (λ (t : NumberedStage). t.part) e) (let l = h.read.lines.within in let f = ap length left in omega (arith, l, f, length-drop place bytes)));
+  place = ap (λ k. k + 1) h.counted;
+  cause = why ∙ ap (λ (ls : List (List ℕ)). numbered_cause_at_stage s.part (slice_get ls 0)) (sym none) ∙ sym (cause-at_part P bytes place s x h.read);
+}
 
 drop-all : (bytes : List ℕ) → drop (length bytes) bytes ≡ []
 drop-all [] = refl

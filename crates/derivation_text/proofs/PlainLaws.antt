@@ -5,8 +5,9 @@ use Rattle.std.proofs.lemmas.Grind.{flat_map-append}
 use Rattle.calculus.specs.declared.version.Version.TheVariants.{One}
 use Rattle.calculus.specs.Syntax.{Problem}
 use Rattle.calculus.specs.Derivations.{Derivation}
-use Rattle.calculus.specs.DerivationText.{eigen_line, head_lines, is_printable, line_bytes, spare_line, step_line}
+use Rattle.calculus.specs.DerivationText.{eigen_line, head_lines, is_printable, spare_line, step_line}
 use Rattle.calculus.specs.Versions.{IsTextIn}
+use Rattle.calculus.specs.FirstWrong.{line_bytes}
 
 -- lists of lines one after the other
 flat-five : (hs es ss xs ls : List (List ℕ)) → flat_map line_bytes hs ++ flat_map line_bytes es ++ flat_map line_bytes ss ++ flat_map line_bytes xs ++ flat_map line_bytes ls ≡ flat_map line_bytes (hs ++ (es ++ ss) ++ xs ++ ls)

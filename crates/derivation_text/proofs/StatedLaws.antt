@@ -1,14 +1,14 @@
 -- The derivation that numbers state can be printed where the numbers can be written.
-use Rattle.std.proofs.Common.{◌≡◌, ℕ, zero, suc, ◌^◌, ◌<◌, List, [], ◌∷◌, length, map, Bool, true, ◌&&◌, IsTrue, Option, None, Some, nat_le, refl, sym, ◌∙◌, ap, arith, leb-true, lt-ltb}
+use Rattle.std.proofs.Common.{◌≡◌, ℕ, zero, suc, ◌^◌, ◌<◌, List, [], ◌∷◌, length, map, Bool, ◌&&◌, IsTrue, Option, None, Some, nat_le, refl, sym, ◌∙◌, ap, arith, leb-true, lt-ltb}
 use Rattle.std.specs.List.{list_all}
 use Rattle.std.proofs.lemmas.Bool.{and_from, and_parts, true≢false}
 use Rattle.calculus.specs.declared.version.Version.TheVariants.{One, Two}
 use Rattle.calculus.specs.Syntax.{Symbol, Term, spare, Problem}
 use Rattle.calculus.specs.Derivations.{Label, EigenName, SpareName, Derivation}
-use Rattle.calculus.specs.DerivationText.{IsText, derivation_text, home_is_written, is_limit, is_printable, label_is_written, modal_is_written, names_are_written, rises_from, step_is_written, term_arg_is_written, term_is_written}
+use Rattle.calculus.specs.DerivationText.{home_is_written, is_limit, is_printable, label_is_written, modal_is_written, names_are_written, rises_from, step_is_written, term_arg_is_written, term_is_written}
 use Rattle.calculus.specs.Text.{is_number}
-use Rattle.calculus.specs.Versions.{IsTextIn, NumberedDerivation, NumberedEigen, NumberedSpare, NumberedModal, no_numbered_modal, to_number, by_character, NumberedTerm, no_numbered_term, by_number, by_eigen, NumberedStep, numbered_use, numbered_axiom, is_among, is_count, is_printable_in, is_written, numbered, numbered_eigen_is_written, numbered_home_is_written, numbered_modal_is_written, numbered_spare_is_written, numbered_step_is_written, numbered_term_is_written, numbered_text, numbering, stated, stated_eigen, stated_home, stated_modal, stated_spare, stated_step, stated_term}
-use Rattle.calculus.specs.VersionJudgement.{IsNumberedText}
+use Rattle.calculus.specs.FirstWrong.{text_of}
+use Rattle.calculus.specs.Versions.{IsTextIn, NumberedDerivation, NumberedEigen, NumberedSpare, NumberedModal, no_numbered_modal, to_number, by_character, NumberedTerm, no_numbered_term, by_number, by_eigen, NumberedStep, numbered_use, numbered_axiom, is_among, is_count, is_printable_in, is_written, numbered, numbered_eigen_is_written, numbered_home_is_written, numbered_modal_is_written, numbered_spare_is_written, numbered_step_is_written, numbered_term_is_written, numbered_texts, numbering, stated, stated_eigen, stated_home, stated_modal, stated_spare, stated_step, stated_term, text_in, IsNumberedText}
 use Rattle.derivation_text.specs.Written.{eigen_is_written, spare_is_written}
 use Rattle.derivation_text.proofs.NumberedEnds.{rising}
 use Rattle.derivation_text.proofs.NumberedFeeds.{written-parts}
@@ -104,21 +104,18 @@ printable-two P x n labels terms h =
 -- numbers in order, in form
 pub text-two : (P : Problem) (x : NumberedDerivation) (bytes : List ℕ) → IsNumberedText P x bytes → x ≡ numbering (stated x) → IsTextIn Two P (stated x) bytes
 text-two P x bytes t n =
-    let p = written-parts P x t.written in
+    let p = written-parts P x t.printable in
     record {
-      printable = printable-two P x n p.label_count p.term_count (stated-printable P x t.written);
-      text = t.text ∙ ap (numbered_text P) n;
+      printable = printable-two P x n p.label_count p.term_count (stated-printable P x t.printable);
+      text = t.text ∙ ap (text_of (numbered_texts P)) n;
     }
 
 -- that are written
-pub text-two_written : (P : Problem) (x : NumberedDerivation) (bytes : List ℕ) → x ≡ numbering (stated x) → length x.labels < 2 ^ 64 → length x.terms < 2 ^ 64 → IsTrue (is_printable P (stated x)) → bytes ≡ numbered_text P x → IsTextIn Two P (stated x) bytes
+pub text-two_written : (P : Problem) (x : NumberedDerivation) (bytes : List ℕ) → x ≡ numbering (stated x) → length x.labels < 2 ^ 64 → length x.terms < 2 ^ 64 → IsTrue (is_printable P (stated x)) → bytes ≡ text_of (numbered_texts P) x → IsTextIn Two P (stated x) bytes
 text-two_written P x bytes n labels terms h t = record {
   printable = printable-two P x n (lt-ltb (length x.labels) (2 ^ 64) labels) (lt-ltb (length x.terms) (2 ^ 64) terms) h;
-  text = t ∙ ap (numbered_text P) n;
+  text = t ∙ ap (text_of (numbered_texts P)) n;
 }
 
-pub text-one : (P : Problem) (d : Derivation) (bytes : List ℕ) → IsText P d bytes → IsTextIn One P d bytes
-text-one P d bytes t = record { printable = t.printable; text = t.text }
-
-pub text-one_written : (P : Problem) (d : Derivation) (bytes : List ℕ) → IsTrue (is_printable P d) → bytes ≡ derivation_text P d → IsTextIn One P d bytes
+pub text-one_written : (P : Problem) (d : Derivation) (bytes : List ℕ) → IsTrue (is_printable P d) → bytes ≡ text_in One P d → IsTextIn One P d bytes
 text-one_written P d bytes h t = record { printable = h; text = t }

@@ -8,8 +8,9 @@ use Rattle.calculus.specs.declared.version.Version.{Version}
 use Rattle.calculus.specs.declared.version.Version.TheVariants.{One, Two}
 use Rattle.calculus.specs.Syntax.{Symbol, Term, Problem}
 use Rattle.calculus.specs.Derivations.{Label}
-use Rattle.calculus.specs.DerivationText.{derivation_lines, eigen_line, head_lines, is_printable, line_bytes, spare_line, step_line}
+use Rattle.calculus.specs.DerivationText.{derivation_lines, eigen_line, head_lines, is_printable, spare_line, step_line}
 use Rattle.calculus.specs.Versions.{IsTextIn, NumberedDerivation, NumberedEigen, NumberedSpare, no_numbered_modal, to_number, by_character, no_numbered_term, by_number, by_eigen, NumberedStep, numbered_use, numbered_axiom, first_line, is_among, is_written, label_line, lines_from, numbered, numbered_eigen_line, numbered_head, numbered_lines, numbered_spare_line, numbered_step_line, numbering, stated, stated_eigen, stated_spare, stated_step, term_line}
+use Rattle.calculus.specs.FirstWrong.{line_bytes}
 use Rattle.calculus.proofs.VersionLaws.{printable-written}
 use Rattle.text_lines.specs.Head.{head_of}
 use Rattle.derivation_text.specs.Writing.{AreTablesWritten, body_lines_in, eigen_line_at, spare_line_at, step_line_at}

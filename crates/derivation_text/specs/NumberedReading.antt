@@ -1,18 +1,13 @@
 -- How far a text of version 2 has been read, and what is told of a wrong one.
-use Rattle.std.specs.Prelude.{◌≡◌, ◌≢◌, ◌⊎◌, ⊤, ℕ, suc, ◌+◌, List, [], ◌∷◌, ◌++◌, length, map, Bool, true, false, ◌&&◌, Option, None, Some, IsTrue, if◌then◌else◌}
+use Rattle.std.specs.Prelude.{◌≡◌, ◌≢◌, ⊤, ℕ, suc, List, [], ◌∷◌, ◌++◌, length, map, Bool, true, false, ◌&&◌, Option, None, Some, IsTrue, if◌then◌else◌}
 use Rattle.std.specs.List.{list_all}
-use Rattle.calculus.specs.declared.fault.CheckFault.TheVariants.{Text as InText}
 use Rattle.calculus.specs.declared.fault.TextCause.{TextCause}
 use Rattle.calculus.specs.declared.fault.TextCause.TheVariants as cause
 use Rattle.calculus.specs.Syntax.{Problem, Term}
 use Rattle.calculus.specs.Derivations.{Label}
 use Rattle.calculus.specs.DerivationText.{is_limit}
-use Rattle.calculus.specs.Judgement.{is_name_line}
 use Rattle.calculus.specs.Versions.{NumberedDerivation, NumberedEigen, NumberedSpare, NumberedStep, numbered_head}
-use Rattle.calculus.specs.VersionJudgement.{IsNumberedFaulty, IsWrongOne, IsWrongTable, IsWrongTwo, is_label_line, is_term_line, numbered_cause_at}
-use Rattle.calculus.specs.declared.version.Version.{Version}
-use Rattle.calculus.specs.declared.version.Version.TheVariants.{One, Two}
-use Rattle.derivation_text.specs.Reading.{IsFaultOf}
+use Rattle.calculus.specs.VersionJudgement.{is_label_line, is_name_line, is_term_line}
 use Rattle.derivation_text.specs.declared.numbered_line.NumberedStage.{NumberedStage}
 use Rattle.derivation_text.specs.declared.numbered_line.Part.{Part}
 use Rattle.derivation_text.specs.declared.numbered_line.Part.TheVariants.{Labels, Eigens, Spares, Terms, Steps, Ended}
@@ -42,19 +37,6 @@ numbered_cause_at_stage (Eigens n) next = cause_in_part (Eigens n) next
 numbered_cause_at_stage (Spares n) next = cause_in_part (Spares n) next
 numbered_cause_at_stage Terms next = cause_in_part Terms next
 numbered_cause_at_stage Steps next = cause_in_part Steps next
-
--- the bytes are not in the form of version 2, and this is the number and the cause of the first wrong line
-abbrev pub IsNumberedFaultOf : Problem → List ℕ → ℕ → TextCause → Type 0
-IsNumberedFaultOf P bytes line why = (n : ℕ) × (line ≡ n + 1) × IsNumberedFaulty P bytes n × (why ≡ numbered_cause_at bytes n)
-
--- the same by the version of the head
-abbrev pub IsFaultIn : Version → Problem → List ℕ → ℕ → TextCause → Type 0
-IsFaultIn One P bytes line why = IsFaultOf P bytes line why
-IsFaultIn Two P bytes line why = IsNumberedFaultOf P bytes line why
-
--- the bytes are a text of neither version, and this is the number and the cause of the first wrong line
-abbrev pub IsTextFault : Problem → List ℕ → ℕ → TextCause → Type 0
-IsTextFault P bytes line why = IsWrongOne P bytes line (InText why) ⊎ IsWrongTwo P bytes line (InText why) ⊎ IsWrongTable P bytes line (InText why)
 
 abbrev pub numbered_stage_after_lines : Option NumberedStage → List NumberedLine → Option NumberedStage
 numbered_stage_after_lines o [] = o

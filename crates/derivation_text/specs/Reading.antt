@@ -1,5 +1,5 @@
 -- How far a text has been read as a derivation.
-use Rattle.std.specs.Prelude.{◌≡◌, ◌≢◌, ⊤, ℕ, ◌+◌, List, [], ◌∷◌, ◌++◌, map, true, IsTrue, Option, Some}
+use Rattle.std.specs.Prelude.{◌≡◌, ◌≢◌, ⊤, ℕ, List, [], ◌∷◌, ◌++◌, map, IsTrue, Option, Some}
 use Rattle.std.specs.List.{list_all}
 use Rattle.calculus.specs.declared.fault.TextCause.{TextCause}
 use Rattle.calculus.specs.declared.fault.TextCause.TheVariants as cause
@@ -7,8 +7,9 @@ use Rattle.calculus.specs.Syntax.{Problem}
 use Rattle.calculus.specs.Derivations.{Derivation}
 use Rattle.calculus.specs.Versions.{first_line}
 use Rattle.calculus.specs.declared.version.Version.{Version}
+use Rattle.calculus.specs.declared.version.Version.TheVariants.{One}
 use Rattle.calculus.specs.DerivationText.{head_lines, is_limit}
-use Rattle.calculus.specs.Judgement.{IsFaulty, cause_among_names, cause_at}
+use Rattle.calculus.specs.VersionJudgement.{cause_in_body}
 use Rattle.derivation_text.specs.declared.body_line.Stage.{Stage}
 use Rattle.derivation_text.specs.declared.body_line.Stage.TheVariants.{Eigens, Spares, Steps, Ended}
 use Rattle.derivation_text.specs.Body.{BodyLine, of_eigen, of_spare, of_step, last, body_line_is_written, body_line_text, names_and_steps, stage_after_lines}
@@ -57,14 +58,10 @@ pub record IsReadTo (P : Problem) (bytes : List ℕ) (place : ℕ) (stage : Stag
 
 -- the cause of a fault after the head, by the next line
 abbrev pub cause_at_stage : Stage → Option (List ℕ) → TextCause
-cause_at_stage (Eigens n) next = cause_among_names true next
-cause_at_stage (Spares n) next = cause_among_names true next
+cause_at_stage (Eigens n) next = cause_in_body One [] next
+cause_at_stage (Spares n) next = cause_in_body One [] next
 cause_at_stage Steps next = cause.Line
 cause_at_stage Ended next = cause.TextAfterEnd
-
--- the bytes are no text, and this is the number and the cause of the first wrong line
-abbrev pub IsFaultOf : Problem → List ℕ → ℕ → TextCause → Type 0
-IsFaultOf P bytes line why = (n : ℕ) × (line ≡ n + 1) × IsFaulty P bytes n × (why ≡ cause_at bytes n)
 
 -- the number and the cause of a wrong line of the head
 abbrev pub head_number : HeadLine → ℕ

@@ -7,7 +7,7 @@ use Rattle.calculus.specs.Syntax.{Formula, Problem}
 use Rattle.calculus.specs.Problems.{formula_fits}
 use Rattle.calculus.specs.Derivations.{Derivation}
 use Rattle.calculus.specs.Versions.{IsTextIn}
-use Rattle.derivation_text.specs.NumberedReading.{IsTextFault}
+use Rattle.calculus.specs.VersionJudgement.{IsTextFault}
 
 abbrev pub AtMostOneInVersion : Problem → List ℕ → Type 0
 AtMostOneInVersion P bytes = (v w : Version) (d e : Derivation) → IsTextIn v P d bytes → IsTextIn w P e bytes → (v ≡ w) × (d ≡ e)

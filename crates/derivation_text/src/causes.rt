@@ -1,7 +1,7 @@
 //! The causes of faults after the head.
 
 ghost use Rattle.std.specs.Prelude.{◌≡◌, None, Some};
-ghost use Rattle.calculus.specs.Judgement.{is_name_line};
+ghost use Rattle.calculus.specs.VersionJudgement.{is_name_line};
 ghost use Rattle.derivation_text.specs.Reading.{cause_at_stage};
 
 use crate::body_line::Stage;

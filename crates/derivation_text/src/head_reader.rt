@@ -4,7 +4,7 @@ ghost use Rattle.std.specs.Prelude.{◌≡◌, ℕ, Err, IfOk, IsTrue};
 ghost use Rattle.calculus.specs.Problems.{is_problem};
 ghost use Rattle.calculus.specs.declared.fault.TextCause.{TextCause};
 ghost use Rattle.calculus.specs.Versions.{first_line};
-ghost use Rattle.derivation_text.specs.NumberedReading.{IsFaultIn};
+ghost use Rattle.calculus.specs.VersionJudgement.{IsWrongForm};
 ghost use Rattle.derivation_text.specs.Reading.{IsHeadRead, head_cause, head_number};
 ghost use Rattle.derivation_text.specs.declared.fault.ParseFault.TheVariants as answer;
 
@@ -57,7 +57,7 @@ pub fn read_head(
     bytes: &[u8],
 ) -> Result<(u8, usize), ParseFault>
     ensures ok { IfOk result (λ r. IsHeadRead version problem.now bytes.now r.1 r.0) }
-    ensures fault { (line : ℕ) (cause : TextCause) → result ≡ Err (ParseFault.Text line cause) → IsFaultIn version problem.now bytes.now line cause }
+    ensures fault { (line : ℕ) (cause : TextCause) → result ≡ Err (ParseFault.Text line cause) → IsWrongForm version problem.now bytes.now line cause }
     ensures well { IsTrue (is_problem problem.now) }
 {
     match text_lines::read_head(alloc, problem, first_line(version), bytes) {

@@ -2,7 +2,7 @@
 
 ghost use Rattle.std.specs.Prelude.{◌≡◌, ◌++◌, codes, decimal, length, map, IsTrue, OnOk};
 ghost use Rattle.std.specs.List.{flat_map, list_all};
-ghost use Rattle.calculus.specs.DerivationText.{line_bytes};
+ghost use Rattle.calculus.specs.FirstWrong.{line_bytes};
 ghost use Rattle.calculus.specs.Versions.{numbered_home_is_written};
 ghost use Rattle.derivation_text.specs.Listed.{are_listed, has_home_among, is_arg_listed, is_modal_listed, may_have_home_among};
 ghost use Rattle.derivation_text.specs.NumbersView.{the_numbered_arg, the_numbered_eigen, the_numbered_modal, the_numbered_spare, the_numbered_step};

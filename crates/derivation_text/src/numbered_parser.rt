@@ -3,13 +3,11 @@
 ghost use Rattle.std.specs.Prelude.{◌≡◌, ◌≢◌, ℕ, false, length, Err, IfOk, IsTrue, OnOk};
 ghost use Rattle.calculus.specs.DerivationText.{is_printable};
 ghost use Rattle.calculus.specs.Problems.{is_problem};
-ghost use Rattle.calculus.specs.VersionJudgement.{IsNumberedText, IsWrongTable, is_version_one};
-ghost use Rattle.calculus.specs.Versions.{IsTextIn, numbering, stated};
-ghost use Rattle.calculus.specs.declared.fault.CheckFault.TheVariants.{Text as InText};
+ghost use Rattle.calculus.specs.VersionJudgement.{IsTextFault, IsWrongForm, IsWrongTable, is_version_one};
+ghost use Rattle.calculus.specs.Versions.{IsTextIn, numbering, stated, IsNumberedText};
 ghost use Rattle.calculus.specs.declared.fault.TextCause.{TextCause};
 ghost use Rattle.derivation_text.specs.Entering.{empty_of};
 ghost use Rattle.derivation_text.specs.NumberedBody.{is_line_listed, the_numbered_line, with_numbered_line};
-ghost use Rattle.derivation_text.specs.NumberedReading.{IsNumberedFaultOf, IsTextFault};
 ghost use Rattle.derivation_text.specs.Reading.{IsHeadRead};
 
 use crate::difference::first_difference;
@@ -78,7 +76,7 @@ fn read_lines(
     requires head { IsHeadRead Version.Two problem.now bytes.now from d.old.limit }
     requires empty { d.old ≡ empty_of d.old.limit }
     ensures text { OnOk result (IsNumberedText problem.now d.new bytes.now) }
-    ensures fault { (line : ℕ) (cause : TextCause) → result ≡ Err (ParseFault.Text line cause) → IsNumberedFaultOf problem.now bytes.now line cause }
+    ensures fault { (line : ℕ) (cause : TextCause) → result ≡ Err (ParseFault.Text line cause) → IsWrongForm Version.Two problem.now bytes.now line cause }
 {
     let length = bytes.len();
     let mut stage = NumberedStage {
@@ -132,7 +130,7 @@ fn check_order(
     requires well { IsTrue (is_problem problem.now) }
     requires form { IsNumberedText problem.now d.now bytes.now }
     ensures numbers { OnOk result (d.now ≡ numbering (stated d.now)) }
-    ensures fault { (line : ℕ) (cause : TextCause) → result ≡ Err (ParseFault.Text line cause) → IsWrongTable problem.now bytes.now line (InText cause) }
+    ensures fault { (line : ℕ) (cause : TextCause) → result ≡ Err (ParseFault.Text line cause) → IsWrongTable problem.now bytes.now line cause }
 {
     if is_in_order(d) {
         return Ok(());

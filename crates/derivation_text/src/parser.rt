@@ -2,14 +2,13 @@
 
 ghost use Rattle.std.specs.Prelude.{◌≡◌, ◌≢◌, ℕ, false, true, Err, IfOk, IsTrue, OnOk};
 ghost use Rattle.calculus.specs.Problems.{is_problem};
-ghost use Rattle.calculus.specs.VersionJudgement.{is_version_one};
+ghost use Rattle.calculus.specs.VersionJudgement.{IsTextFault, IsWrongForm, is_version_one};
 ghost use Rattle.calculus.specs.Versions.{IsTextIn, numbering, stated};
 ghost use Rattle.calculus.specs.declared.fault.TextCause.{TextCause};
 ghost use Rattle.derivation_text.specs.BodyView.{the_body_line};
 ghost use Rattle.derivation_text.specs.Entering.{empty_of, put_line, put_step};
 ghost use Rattle.derivation_text.specs.RowView.{the_row_step};
-ghost use Rattle.derivation_text.specs.NumberedReading.{IsTextFault};
-ghost use Rattle.derivation_text.specs.Reading.{IsFaultOf, IsHeadRead};
+ghost use Rattle.derivation_text.specs.Reading.{IsHeadRead};
 ghost use Rattle.derivation_text.specs.Single.{AtMostOneInVersion, AtMostOneTextFault};
 ghost use Rattle.sequent_calc.specs.DerivationView.{the_derivation};
 
@@ -83,7 +82,7 @@ fn read_lines(
     requires empty { d.old ≡ empty_of d.old.limit }
     ensures text { OnOk result (IsTextIn Version.One problem.now (stated d.new) bytes.now) }
     ensures numbers { OnOk result (d.new ≡ numbering (stated d.new)) }
-    ensures fault { (line : ℕ) (cause : TextCause) → result ≡ Err (ParseFault.Text line cause) → IsFaultOf problem.now bytes.now line cause }
+    ensures fault { (line : ℕ) (cause : TextCause) → result ≡ Err (ParseFault.Text line cause) → IsWrongForm Version.One problem.now bytes.now line cause }
 {
     let length = bytes.len();
     let mut stage = Stage::Eigens(0);

@@ -2,11 +2,12 @@
 
 ghost use Rattle.std.specs.Prelude.{◌≡◌, ◌++◌, map, IsTrue, IfOk, OnOk};
 ghost use Rattle.std.specs.List.{flat_map, list_all};
-ghost use Rattle.calculus.specs.DerivationText.{eigen_line, home_is_written, home_text, is_printable, line_bytes};
+ghost use Rattle.calculus.specs.DerivationText.{eigen_line, home_is_written, home_text, is_printable};
 ghost use Rattle.calculus.specs.DerivationText.{modal_is_written, modal_text, spare_line, step_is_written, step_line};
 ghost use Rattle.calculus.specs.DerivationText.{term_arg_is_written, term_arg_text, term_is_written};
 ghost use Rattle.calculus.specs.Text.{term_text};
 ghost use Rattle.calculus.specs.Versions.{IsTextIn};
+ghost use Rattle.calculus.specs.FirstWrong.{line_bytes};
 ghost use Rattle.derivation_text.specs.Written.{eigen_is_written, spare_is_written};
 ghost use Rattle.sequent_calc.specs.DerivationView.{the_derivation};
 ghost use Rattle.sequent_calc.specs.NamesView.{the_eigen, the_home, the_spare};

@@ -2,7 +2,7 @@
 
 ghost use Rattle.std.specs.Prelude.{◌≡◌, ◌++◌, [], length, IsTrue, OnOk};
 ghost use Rattle.std.specs.List.{flat_map};
-ghost use Rattle.calculus.specs.DerivationText.{line_bytes};
+ghost use Rattle.calculus.specs.FirstWrong.{line_bytes};
 ghost use Rattle.calculus.specs.Syntax.{spare};
 ghost use Rattle.calculus.specs.Versions.{is_among, label_line, lines_from, numbered, term_line};
 ghost use Rattle.derivation_text.specs.Writing.{AreTablesWritten, label_lines_in, label_text_at, term_lines_in, term_text_at};

@@ -2,8 +2,9 @@
 
 ghost use Rattle.std.specs.Prelude.{◌≡◌, ◌++◌, IsTrue, IfOk, OnOk};
 ghost use Rattle.std.specs.List.{flat_map};
-ghost use Rattle.calculus.specs.DerivationText.{is_printable, line_bytes};
+ghost use Rattle.calculus.specs.DerivationText.{is_printable};
 ghost use Rattle.calculus.specs.Versions.{IsTextIn, numbering, stated};
+ghost use Rattle.calculus.specs.FirstWrong.{line_bytes};
 ghost use Rattle.derivation_text.specs.Single.{AtMostOneFormula, AtMostOneInVersion};
 ghost use Rattle.derivation_text.specs.Writing.{AreTablesWritten, body_lines_in};
 ghost use Rattle.sequent_calc.specs.DerivationView.{the_derivation};

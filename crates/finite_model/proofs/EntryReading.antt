@@ -11,17 +11,19 @@ use Rattle.calculus.specs.declared.fault.StructureCause.{StructureCause}
 use Rattle.calculus.specs.declared.fault.StructureCause.TheVariants as cause
 use Rattle.calculus.specs.Syntax.{Problem}
 use Rattle.calculus.specs.Problems.{symbol_fits}
-use Rattle.calculus.specs.Judgement.{whole_lines}
-use Rattle.calculus.specs.StructureText.{fits_table, is_size}
+use Rattle.calculus.specs.FirstWrong.{whole_lines}
+use Rattle.calculus.specs.StructureText.{fits_table, is_size, structure_causes, structure_texts}
+use Rattle.text_lines.proofs.FirstWrong.{wrong-moved}
 use Rattle.finite_model.specs.declared.slot.Slot.{Slot}
 use Rattle.finite_model.specs.declared.head.Head.{Head}
-use Rattle.finite_model.specs.Reading.{AreEntriesRead, AreRead, IsFaultOf, IsHeadRead, IsLineAt, IsSlotAt, NoSlotAt, the_slot}
+use Rattle.text_lines.specs.Lines.{AreRead, IsLineAt}
+use Rattle.finite_model.specs.Reading.{AreEntriesRead, IsFaultOf, IsHeadRead, IsSlotAt, NoSlotAt, the_slot}
 use Rattle.finite_model.specs.Slots.{Place, are_entries, entry_lines, entry_text, head_of, is_entry, lines_of, slots}
 use Rattle.finite_model.specs.StructureView.{the_lists}
 use Rattle.finite_model.proofs.SlotLaws.{entry-count, entries-joined, lines-joined}
 use Rattle.finite_model.proofs.SlotFaults.{all_apart, all_fill, can_fill, is_apart, slot-fault, end-fault, after-fault, lines-count}
 use Rattle.finite_model.proofs.HeadFaults.{slots-apart, slots-fill}
-use Rattle.finite_model.proofs.HeadReading.{more-read}
+use Rattle.text_lines.proofs.WholeLines.{more-read}
 use Rattle.finite_model.proofs.PushLaws.{rest-at}
 
 -- the entries of the first slots are read up to this place
@@ -132,7 +134,7 @@ entries-stopped P names bytes h xs i vs place s line number why head same lt e r
     let f = entries-fault P names bytes h.worlds h.elements (map the_slot xs) i (the_lists vs) place (the_slot s) head.worlds head.elements head.fits same (slot-at xs i s lt e) r none in
     let c = lists-count vs in
     let l : length (the_lists vs) + 5 ≡ line = omega (arith, c, at-line, counted) in
-    (f.0, sym l ∙ f.1, f.2, is-line ∙ f.3)
+    wrong-moved (structure_texts P) structure_causes bytes (length (the_lists vs) + 5) line cause.Line why l (sym is-line) f
 
 pub slots-count : (xs : List Slot) (i : ℕ) → length xs ≤ i → length (map the_slot xs) ≤ i
 slots-count xs i h = let c = length-map xs the_slot in omega (arith, c)

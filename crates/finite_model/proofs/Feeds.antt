@@ -1,69 +1,18 @@
 -- No line of a structure has a line feed in it.
-use Rattle.std.proofs.Common.{◌≡◌, ℕ, zero, suc, ◌+◌, ◌/◌, ◌%◌, ◌^◌, List, [], ◌∷◌, ◌++◌, Bool, true, false, not, ◌||◌, ◌==◌, IsTrue, refl, sym, ◌∙◌, ap, subst, decimal, nat_lt, arith, inl, inr, flat_map, codes, if◌then◌else◌}
+use Rattle.std.proofs.Common.{ℕ, zero, suc, ◌+◌, ◌^◌, List, [], ◌∷◌, ◌++◌, Bool, true, false, IsTrue, refl, sym, ◌∙◌, ap, decimal, codes, if◌then◌else◌}
 use Rattle.std.specs.List.{list_all}
-use Rattle.std.specs.Fmt.{digit_glyph, digits_onto, digits}
-use Rattle.std.proofs.lemmas.Bool.{and_parts, and_from, cases_Bool, eqb-true, false≢true}
+use Rattle.std.proofs.lemmas.Bool.{and_parts, and_from, false≢true}
 use Rattle.std.proofs.lemmas.List.Folds.{list_all-append}
-use Rattle.calculus.specs.declared.symbol.SymbolClass.{SymbolClass}
-use Rattle.calculus.specs.declared.symbol.SymbolClass.TheVariants.{Function, Predicate, Equality, Truth}
-use Rattle.calculus.specs.declared.setting.Logic.{Logic}
-use Rattle.calculus.specs.declared.setting.Logic.TheVariants.{Classical, Intuitionistic, D, T as LogicT, S4, S5}
-use Rattle.calculus.specs.declared.setting.Domains.{Domains}
-use Rattle.calculus.specs.declared.setting.Domains.TheVariants.{Constant, Cumulative, Varying}
 use Rattle.calculus.specs.Syntax.{Symbol, Problem}
-use Rattle.calculus.specs.Problems.{is_name, is_name_byte, name_fits, symbol_fits}
-use Rattle.calculus.specs.Equality.{list_eq}
-use Rattle.calculus.specs.DerivationText.{domains_text, logic_text, setting_text}
-use Rattle.calculus.specs.Text.{escaped, is_lower_word, name_text, symbol_text, text_by_class}
+use Rattle.calculus.specs.Problems.{symbol_fits}
+use Rattle.calculus.specs.DerivationText.{setting_text}
+use Rattle.calculus.specs.Text.{symbol_text}
 use Rattle.calculus.specs.StructureText.{numbers_text, symbol_head}
 use Rattle.calculus.specs.Skolem.{is_function}
-use Rattle.calculus.proofs.EqualityLaws.{list_eq-tells, nat_eq-tells}
+use Rattle.text_lines.proofs.LineFeeds.{AreNoFeeds, NoFeed, before, class-feed, decimal-feed, is_no_feed, join, lines-join, logic-feed, not_ten}
 use Rattle.finite_model.specs.declared.slot.Form.{Form}
 use Rattle.finite_model.specs.declared.slot.Form.TheVariants.{Rising, Values, Digits}
 use Rattle.finite_model.specs.Slots.{Place, is_bit_digit, is_entry, entry_text, world_slots, function_slots, predicate_slots, slots, are_entries, entry_lines, head_of, lines_of}
-
-abbrev pub is_no_feed : ℕ → Bool
-is_no_feed b = not (b == 10)
-
-abbrev pub NoFeed : List ℕ → Type 0
-NoFeed bytes = IsTrue (list_all is_no_feed bytes)
-
-abbrev pub AreNoFeeds : List (List ℕ) → Type 0
-AreNoFeeds ls = IsTrue (list_all (list_all is_no_feed) ls)
-
-join : (a b : List ℕ) → NoFeed a → NoFeed b → NoFeed (a ++ b)
-join a b h k = list_all-append is_no_feed a b ∙ and_from (list_all is_no_feed a) (list_all is_no_feed b) h k
-
-before : (b : ℕ) (bs : List ℕ) → IsTrue (is_no_feed b) → NoFeed bs → NoFeed (b ∷ bs)
-before b bs h k = and_from (is_no_feed b) (list_all is_no_feed bs) h k
-
-pub not_ten : (b : ℕ) → ¬ (b ≡ 10) → IsTrue (is_no_feed b)
-not_ten b n = elim (cases_Bool (b == 10)) [
-  | inl e ↦ absurd (n (eqb-true b 10 e))
-  | inr e ↦ ap not e
-]
-
--- ---- numbers
-
-glyph-feed : (u : Bool) (d : ℕ) → IsTrue (is_no_feed (digit_glyph u d))
-glyph-feed u d = by (nat_lt d 10) u
-  where
-    by : (b u : Bool) → IsTrue (is_no_feed (if b then 48 + d else (if u then 55 + d else 87 + d)))
-    by true u = not_ten (48 + d) (λ e. omega arith)
-    by false true = not_ten (55 + d) (λ e. omega arith)
-    by false false = not_ten (87 + d) (λ e. omega arith)
-
-digits-feed : (k base : ℕ) (u : Bool) (n : ℕ) (acc : List ℕ) → NoFeed acc → NoFeed (digits_onto k base u n acc)
-digits-feed zero base u n acc h = h
-digits-feed (suc k) base u n acc h = by (digits-feed k base u) (n / base == 0)
-  where
-    by : ((m : ℕ) (more : List ℕ) → NoFeed more → NoFeed (digits_onto k base u m more)) → (b : Bool) → NoFeed (if b then digit_glyph u (n % base) ∷ acc else digits_onto k base u (n / base) (digit_glyph u (n % base) ∷ acc))
-    by rest true = before (digit_glyph u (n % base)) acc (glyph-feed u (n % base)) h
-    by rest false = rest (n / base) (digit_glyph u (n % base) ∷ acc) (before (digit_glyph u (n % base)) acc (glyph-feed u (n % base)) h)
-
-pub decimal-feed : (n : ℕ) → NoFeed (decimal n)
-unfolding digits
-decimal-feed n = digits-feed 64 10 false n [] refl
 
 numbers-feed : (xs : List ℕ) → NoFeed (numbers_text xs)
 numbers-feed [] = refl
@@ -81,62 +30,8 @@ entry-feed (Rising most) xs h = numbers-feed xs
 entry-feed (Values count most) xs h = numbers-feed xs
 entry-feed (Digits count) xs h = row-feed xs (and_parts _ _ h).0
 
--- ---- names and settings
-
-byte-feed : (b : ℕ) → IsTrue (is_name_byte b) → IsTrue (is_no_feed b)
-byte-feed b h = not_ten b (λ e. false≢true (sym (ap is_name_byte e) ∙ h))
-
-name-bytes : (bs : List ℕ) → IsTrue (list_all is_name_byte bs) → NoFeed bs
-name-bytes [] h = refl
-name-bytes (b ∷ bs) h = let p = and_parts (is_name_byte b) (list_all is_name_byte bs) h in before b bs (byte-feed b p.0) (name-bytes bs p.1)
-
-name-all : (bs : List ℕ) → IsTrue (is_name bs) → IsTrue (list_all is_name_byte bs)
-name-all [] h = refl
-name-all (b ∷ bs) h = h
-
-escaped-feed : (b : ℕ) → IsTrue (is_no_feed b) → NoFeed (escaped b)
-escaped-feed b h = by (b == 39 || b == 92)
-  where
-    by : (t : Bool) → NoFeed (if t then 92 ∷ b ∷ [] else b ∷ [])
-    by true = before 92 (b ∷ []) refl (before b [] h refl)
-    by false = before b [] h refl
-
-all_escaped-feed : (bs : List ℕ) → NoFeed bs → NoFeed (flat_map escaped bs)
-all_escaped-feed [] h = refl
-all_escaped-feed (b ∷ bs) h =
-    let p = and_parts (is_no_feed b) (list_all is_no_feed bs) h in
-    join (escaped b) (flat_map escaped bs) (escaped-feed b p.0) (all_escaped-feed bs p.1)
-
-name-feed : (bs : List ℕ) → IsTrue (is_name bs) → NoFeed (name_text bs)
-name-feed bs h = by (is_lower_word bs)
-  where
-    by : (t : Bool) → NoFeed (if t then bs else 39 ∷ (flat_map escaped bs ++ 39 ∷ []))
-    by true = name-bytes bs (name-all bs h)
-    by false = before 39 (flat_map escaped bs ++ 39 ∷ []) refl (join (flat_map escaped bs) (39 ∷ []) (all_escaped-feed bs (name-bytes bs (name-all bs h))) refl)
-
-class-feed : (c : SymbolClass) (name : List ℕ) (n : ℕ) → IsTrue (name_fits c name n) → NoFeed (text_by_class c name)
-class-feed Function name n h = name-feed name h
-class-feed Predicate name n h = name-feed name h
-class-feed Equality name n h =
-    let e = (list_eq-tells ◌==◌ nat_eq-tells name (codes "=")).0 (and_parts (list_eq ◌==◌ name (codes "=")) (n == 2) h).0 in
-    subst NoFeed (sym e) refl
-class-feed Truth name n h = refl
-
 head-feed : (s : Symbol) → IsTrue (symbol_fits s) → NoFeed (symbol_head s)
 head-feed s h = join (symbol_text s ++ codes " ") (decimal s.arity) (join (symbol_text s) (codes " ") (class-feed s.class s.name s.arity h) refl) (decimal-feed s.arity)
-
-domains-feed : (a : List ℕ) (d : Domains) → NoFeed a → NoFeed (a ++ domains_text d)
-domains-feed a Constant h = join a (codes " constant") h refl
-domains-feed a Cumulative h = join a (codes " cumulative") h refl
-domains-feed a Varying h = join a (codes " varying") h refl
-
-logic-feed : (l : Logic) (d : Domains) → NoFeed (logic_text l d)
-logic-feed Classical d = refl
-logic-feed Intuitionistic d = refl
-logic-feed D d = domains-feed (codes "d") d refl
-logic-feed LogicT d = domains-feed (codes "t") d refl
-logic-feed S4 d = domains-feed (codes "s4") d refl
-logic-feed S5 d = domains-feed (codes "s5") d refl
 
 -- ---- slots
 
@@ -188,9 +83,6 @@ entries-feed (s ∷ ss) (e ∷ es) h k =
     let p = and_parts (list_all is_no_feed s.front) (fronts_free ss) h in
     let q = and_parts (is_entry s.form e) (are_entries ss es) k in
     and_from (list_all is_no_feed (s.front ++ entry_text s.form e)) (list_all (list_all is_no_feed) (entry_lines ss es)) (join s.front (entry_text s.form e) p.0 (entry-feed s.form e q.0)) (entries-feed ss es p.1 q.1)
-
-lines-join : (ks ls : List (List ℕ)) → AreNoFeeds ks → AreNoFeeds ls → AreNoFeeds (ks ++ ls)
-lines-join ks ls h k = list_all-append (list_all is_no_feed) ks ls ∙ and_from (list_all (list_all is_no_feed) ks) (list_all (list_all is_no_feed) ls) h k
 
 top-feed : (P : Problem) (W E : ℕ) → AreNoFeeds (head_of P W E)
 top-feed P W E =

@@ -1,26 +1,26 @@
 -- The faults of the head, and that the slots of each head can be filled and begin unlike the end.
-use Rattle.std.proofs.Common.{◌≡◌, ℕ, zero, suc, ◌^◌, List, [], ◌∷◌, ◌++◌, length, take, drop, Bool, true, false, IsTrue, refl, sym, ◌∙◌, ap, append-nil, arith, codes, decimal, nat_le, leb-true, lt-ltb, if◌then◌else◌}
+use Rattle.std.proofs.Common.{◌≡◌, ℕ, zero, suc, ◌^◌, List, [], ◌∷◌, ◌++◌, length, drop, Bool, true, false, IsTrue, refl, sym, ◌∙◌, ap, append-nil, arith, codes, decimal, nat_le, leb-true, lt-ltb, if◌then◌else◌}
 use Rattle.std.specs.List.{list_all}
 use Rattle.std.proofs.lemmas.Bool.{and_parts, and_from, false≢true}
 use Rattle.std.proofs.lemmas.List.Folds.{list_all-append}
-use Rattle.std.proofs.Math.Seq.{take-append_seam}
-use Rattle.plain_laws.proofs.Lists.{first-item}
 use Rattle.plain_laws.proofs.Numbers.{one-power}
 use Rattle.calculus.specs.declared.fault.StructureCause.TheVariants as cause
 use Rattle.calculus.specs.Syntax.{Symbol, Problem}
 use Rattle.calculus.specs.Problems.{symbol_fits}
 use Rattle.calculus.specs.DerivationText.{setting_text}
-use Rattle.calculus.specs.Judgement.{whole_lines}
+use Rattle.calculus.specs.FirstWrong.{whole_lines}
 use Rattle.calculus.specs.Skolem.{is_function}
 use Rattle.calculus.specs.Structures.{Structure}
-use Rattle.calculus.specs.StructureText.{can_be_stated, fits_table, is_size, structure_cause_after, structure_cause_at, symbol_head}
+use Rattle.calculus.specs.StructureText.{can_be_stated, fits_table, is_size, symbol_head, structure_causes, structure_texts, world_lines, function_lines, predicate_lines}
 use Rattle.calculus.proofs.StructureTextUnique.{stated-parts}
 use Rattle.finite_model.specs.declared.slot.Form.{Form}
 use Rattle.finite_model.specs.declared.slot.Form.TheVariants.{Rising, Values, Digits}
-use Rattle.finite_model.specs.Reading.{AreRead, IsFaultOf}
+use Rattle.text_lines.specs.Lines.{AreRead}
+use Rattle.finite_model.specs.Reading.{IsFaultOf}
 use Rattle.finite_model.specs.Slots.{Place, function_slots, head_of, predicate_slots, slots, world_slots}
 use Rattle.finite_model.proofs.SlotFaults.{all_apart, all_fill, begun-by, is_apart, can_fill}
-use Rattle.finite_model.proofs.TextFaults.{IsBegun, faulty}
+use Rattle.text_lines.proofs.FirstWrong.{IsBegun, faulty, line-missing, wrong-behind}
+use Rattle.finite_model.proofs.TextFaults.{no-feeds}
 
 -- ---- each slot passes a test
 
@@ -81,36 +81,18 @@ one-fits [] = refl
 one-fits (s ∷ ss) = and_from (fits_table 1 s) (list_all (fits_table 1) ss) (ap (λ k. nat_le k 1000000) (one-power s.arity)) (one-fits ss)
 
 -- of each number of worlds there is a structure, with one element
-pub some-begun : (P : Problem) (W : ℕ) → IsTrue (is_size W) → IsBegun P (head_of P W 1)
+pub some-begun : (P : Problem) (W : ℕ) → IsTrue (is_size W) → IsBegun (structure_texts P) (head_of P W 1)
 some-begun P W hw =
     let b = begun-by P W 1 [] (slots P.symbols W 1) [] hw refl (one-fits P.symbols) refl refl (slots-fill W 1 P.symbols refl) in
-    record { whose = b.whose; stated = b.stated; rest = b.rest; all = b.all ∙ ap (λ l. l ++ b.rest) (append-nil (head_of P W 1)) }
+    record { whose = b.whose; printable = b.printable; rest = b.rest; all = b.all ∙ ap (λ l. l ++ b.rest) (append-nil (head_of P W 1)) }
 
 -- ---- the faults
-
-lines-at : (P : Problem) (bytes : List ℕ) (seen : List (List ℕ)) (place : ℕ) → AreRead bytes seen place → structure_cause_at bytes (length seen) ≡ structure_cause_after seen
-lines-at P bytes seen place r = ap structure_cause_after (ap (take (length seen)) r.whole ∙ take-append_seam seen (whole_lines (drop place bytes)))
-
-no_line : (l : List ℕ) (ls : List (List ℕ)) → l ∷ ls ≡ [] → ⊥
-no_line l ls e = cc
 
 fourth : (a b c d x y z l : List ℕ) (xs ys : List (List ℕ)) → a ∷ b ∷ c ∷ d ∷ xs ≡ x ∷ y ∷ z ∷ l ∷ ys → d ≡ l
 fourth a b c d x y z l xs ys e = cc
 
-third : (a b c x y l : List ℕ) (xs ys : List (List ℕ)) → a ∷ b ∷ c ∷ xs ≡ x ∷ y ∷ l ∷ ys → c ≡ l
-third a b c x y l xs ys e = cc
-
-second : (a b x l : List ℕ) (xs ys : List (List ℕ)) → a ∷ b ∷ xs ≡ x ∷ l ∷ ys → b ≡ l
-second a b x l xs ys e = cc
-
 too-few : (a b c d x y z : List ℕ) (xs : List (List ℕ)) → a ∷ b ∷ c ∷ d ∷ xs ≡ x ∷ y ∷ z ∷ [] → ⊥
 too-few a b c d x y z xs e = cc
-
-too-few_by_two : (a b c x y : List ℕ) (xs : List (List ℕ)) → a ∷ b ∷ c ∷ xs ≡ x ∷ y ∷ [] → ⊥
-too-few_by_two a b c x y xs e = cc
-
-too-few_by_three : (a b x : List ℕ) (xs : List (List ℕ)) → a ∷ b ∷ xs ≡ x ∷ [] → ⊥
-too-few_by_three a b x xs e = cc
 
 abbrev version_line : List ℕ
 version_line = codes "leancop structure 1"
@@ -118,46 +100,39 @@ version_line = codes "leancop structure 1"
 abbrev setting_line : Problem → List ℕ
 setting_line P = codes "logic " ++ setting_text P.setting
 
+abbrev worlds_line : Structure → List ℕ
+worlds_line S = codes "worlds " ++ decimal (length S.successors)
+
+-- the lines of a structure behind its first three
+abbrev behind_three : Problem → Structure → List (List ℕ)
+behind_three P S =
+    (codes "elements " ++ decimal S.elements) ∷ (((world_lines (codes "relation ") 0 S.successors ++ world_lines (codes "domain ") 0 S.domains) ++ function_lines P.symbols S.meanings) ++ predicate_lines P.symbols S.meanings) ++ codes "end" ∷ []
+
 pub version-fault : (P : Problem) → IsTrue (list_all symbol_fits P.symbols) → (bytes : List ℕ) → AreRead bytes [] 0 → ((more : List (List ℕ)) → ¬ (whole_lines (drop 0 bytes) ≡ codes "leancop structure 1" ∷ more)) → IsFaultOf P bytes 1 cause.Version
-version-fault P names bytes r none = (
-  0,
-  refl,
-  faulty P names bytes [] (whole_lines (drop 0 bytes)) r.whole (let b = some-begun P 1 refl in record { whose = b.whose; stated = b.stated; rest = head_of P 1 1 ++ b.rest; all = b.all })
-      (λ S stated l rest more e f. none more (f ∙ ap (λ (j : List ℕ). j ∷ more) (sym (first-item version_line l _ rest e))))
-      (λ S t e. no_line version_line _ e),
-  sym (lines-at P bytes [] 0 r),
-)
+version-fault P names bytes r none =
+    let b = some-begun P 1 refl in
+    line-missing (structure_texts P) structure_causes (no-feeds P names) bytes [] 0 (λ S. version_line) r b.whose b.printable
+    (λ S. record { rest = setting_line P ∷ worlds_line S ∷ behind_three P S; all = refl }) (λ S h more. none more) cause.Version (λ next. refl)
 
 pub setting-fault : (P : Problem) → IsTrue (list_all symbol_fits P.symbols) → (bytes : List ℕ) (place : ℕ) → AreRead bytes (codes "leancop structure 1" ∷ []) place → ((more : List (List ℕ)) → ¬ (whole_lines (drop place bytes) ≡ (codes "logic " ++ setting_text P.setting) ∷ more)) → IsFaultOf P bytes 2 cause.Setting
-setting-fault P names bytes place r none = (
-  1,
-  refl,
-  faulty P names bytes (version_line ∷ []) (whole_lines (drop place bytes)) r.whole (let b = some-begun P 1 refl in record { whose = b.whose; stated = b.stated; rest = setting_line P ∷ (codes "worlds " ++ decimal 1) ∷ (codes "elements " ++ decimal 1) ∷ b.rest; all = b.all })
-      (λ S stated l rest more e f. none more (f ∙ ap (λ (j : List ℕ). j ∷ more) (sym (second version_line (setting_line P) version_line l _ rest e))))
-      (λ S t e. too-few_by_three version_line (setting_line P) version_line _ e),
-  sym (lines-at P bytes (version_line ∷ []) place r),
-)
+setting-fault P names bytes place r none =
+    let b = some-begun P 1 refl in
+    line-missing (structure_texts P) structure_causes (no-feeds P names) bytes (version_line ∷ []) place (λ S. setting_line P) r b.whose b.printable
+    (λ S. record { rest = worlds_line S ∷ behind_three P S; all = refl }) (λ S h more. none more) cause.Setting (λ next. refl)
 
 pub worlds-fault : (P : Problem) → IsTrue (list_all symbol_fits P.symbols) → (bytes : List ℕ) (place : ℕ) → AreRead bytes (codes "leancop structure 1" ∷ (codes "logic " ++ setting_text P.setting) ∷ []) place → ((n : ℕ) (more : List (List ℕ)) → IsTrue (is_size n) → ¬ (whole_lines (drop place bytes) ≡ (codes "worlds " ++ decimal n) ∷ more)) → IsFaultOf P bytes 3 cause.Size
-worlds-fault P names bytes place r none = (
-  2,
-  refl,
-  faulty P names bytes (version_line ∷ setting_line P ∷ []) (whole_lines (drop place bytes)) r.whole (let b = some-begun P 1 refl in record { whose = b.whose; stated = b.stated; rest = (codes "worlds " ++ decimal 1) ∷ (codes "elements " ++ decimal 1) ∷ b.rest; all = b.all })
-      (λ S stated l rest more e f. none (length S.successors) more (stated-parts P S stated).size (f ∙ ap (λ (j : List ℕ). j ∷ more) (sym (third version_line (setting_line P) (codes "worlds " ++ decimal (length S.successors)) version_line (setting_line P) l _ rest e))))
-      (λ S t e. too-few_by_two version_line (setting_line P) (codes "worlds " ++ decimal (length S.successors)) version_line (setting_line P) _ e),
-  sym (lines-at P bytes (version_line ∷ setting_line P ∷ []) place r),
-)
+worlds-fault P names bytes place r none =
+    let b = some-begun P 1 refl in
+    line-missing (structure_texts P) structure_causes (no-feeds P names) bytes (version_line ∷ setting_line P ∷ []) place worlds_line r b.whose b.printable
+    (λ S. record { rest = behind_three P S; all = refl }) (λ S h more. none (length S.successors) more (stated-parts P S h).size) cause.Size (λ next. refl)
 
 -- the tables of a structure that can be stated are not too large
 stated-fits : (P : Problem) (S : Structure) → IsTrue (can_be_stated P S) → IsTrue (list_all (fits_table S.elements) P.symbols)
 stated-fits P S h = (and_parts _ _ (and_parts _ _ (and_parts _ _ h).0).0).1
 
 pub elements-fault : (P : Problem) → IsTrue (list_all symbol_fits P.symbols) → (bytes : List ℕ) (W place : ℕ) → IsTrue (is_size W) → AreRead bytes (codes "leancop structure 1" ∷ (codes "logic " ++ setting_text P.setting) ∷ (codes "worlds " ++ decimal W) ∷ []) place → ((n : ℕ) (more : List (List ℕ)) → IsTrue (is_size n) → IsTrue (list_all (fits_table n) P.symbols) → ¬ (whole_lines (drop place bytes) ≡ (codes "elements " ++ decimal n) ∷ more)) → IsFaultOf P bytes 4 cause.Size
-elements-fault P names bytes W place hw r none = (
-  3,
-  refl,
-  faulty P names bytes (version_line ∷ setting_line P ∷ (codes "worlds " ++ decimal W) ∷ []) (whole_lines (drop place bytes)) r.whole (let b = some-begun P W hw in record { whose = b.whose; stated = b.stated; rest = (codes "elements " ++ decimal 1) ∷ b.rest; all = b.all })
-      (λ S stated l rest more e f. none S.elements more (stated-parts P S stated).elements (stated-fits P S stated) (f ∙ ap (λ (j : List ℕ). j ∷ more) (sym (fourth version_line (setting_line P) (codes "worlds " ++ decimal (length S.successors)) (codes "elements " ++ decimal S.elements) version_line (setting_line P) (codes "worlds " ++ decimal W) l _ rest e))))
-      (λ S t e. too-few version_line (setting_line P) (codes "worlds " ++ decimal (length S.successors)) (codes "elements " ++ decimal S.elements) version_line (setting_line P) (codes "worlds " ++ decimal W) _ e),
-  sym (lines-at P bytes (version_line ∷ setting_line P ∷ (codes "worlds " ++ decimal W) ∷ []) place r),
-)
+elements-fault P names bytes W place hw r none =
+    wrong-behind (structure_texts P) structure_causes bytes (version_line ∷ setting_line P ∷ (codes "worlds " ++ decimal W) ∷ []) (whole_lines (drop place bytes)) 4 cause.Size r.whole (
+    faulty (structure_texts P) (no-feeds P names) bytes (version_line ∷ setting_line P ∷ (codes "worlds " ++ decimal W) ∷ []) (whole_lines (drop place bytes)) r.whole (let b = some-begun P W hw in record { whose = b.whose; printable = b.printable; rest = (codes "elements " ++ decimal 1) ∷ b.rest; all = b.all })
+    (λ S stated l rest more e f. none S.elements more (stated-parts P S stated).elements (stated-fits P S stated) (f ∙ ap (λ (j : List ℕ). j ∷ more) (sym (fourth version_line (setting_line P) (codes "worlds " ++ decimal (length S.successors)) (codes "elements " ++ decimal S.elements) version_line (setting_line P) (codes "worlds " ++ decimal W) l _ rest e))))
+    (λ S t e. too-few version_line (setting_line P) (codes "worlds " ++ decimal (length S.successors)) (codes "elements " ++ decimal S.elements) version_line (setting_line P) (codes "worlds " ++ decimal W) _ e)) refl refl

@@ -1,32 +1,22 @@
 -- How the reading of lines goes on, and the head line by line, where the lines are known by equations.
-use Rattle.std.proofs.Common.{◌≡◌, ℕ, ◌≤◌, List, [], ◌∷◌, ◌++◌, drop, Bool, IsTrue, refl, sym, ◌∙◌, ap, append_assoc, arith, flat_map, codes, decimal, subst, Result, Err, nat_le, leb-true}
+use Rattle.std.proofs.Common.{◌≡◌, ℕ, ◌≤◌, List, [], ◌∷◌, ◌++◌, drop, Bool, IsTrue, sym, ◌∙◌, ap, codes, decimal, subst, Result, Err, nat_le, leb-true}
 use Rattle.std.proofs.lemmas.Bool.{and_parts}
 use Rattle.std.proofs.lemmas.Fmt.{decimal_injective}
-use Rattle.std.proofs.lemmas.Grind.{flat_map-append}
-use Rattle.plain_laws.proofs.Lists.{first-item, regroup-line}
+use Rattle.plain_laws.proofs.Lists.{first-item}
 use Rattle.calculus.proofs.StructureTextUnique.{size-small}
 use Rattle.calculus.specs.declared.fault.StructureCause.{StructureCause}
 use Rattle.calculus.specs.Syntax.{Problem}
-use Rattle.calculus.specs.DerivationText.{line_bytes, setting_text}
-use Rattle.calculus.specs.Judgement.{whole_lines}
-use Rattle.calculus.specs.StructureText.{is_size}
+use Rattle.calculus.specs.DerivationText.{setting_text}
+use Rattle.calculus.specs.FirstWrong.{whole_lines}
+use Rattle.calculus.specs.StructureText.{is_size, structure_causes, structure_texts}
 use Rattle.calculus.proofs.DerivationTextLaws.{cancel}
 use Rattle.finite_model.specs.declared.fault.StructureRead.{StructureRead}
 use Rattle.finite_model.specs.declared.fault.StructureRead.TheVariants.{Bad}
-use Rattle.finite_model.specs.Reading.{AreRead, IsFaultOf, IsLineAt}
+use Rattle.text_lines.specs.Lines.{AreRead, IsLineAt}
+use Rattle.finite_model.specs.Reading.{IsFaultOf}
+use Rattle.text_lines.proofs.FirstWrong.{wrong-moved}
+use Rattle.text_lines.proofs.WholeLines.{more-read, none-read}
 use Rattle.finite_model.specs.Slots.{head_of}
-
--- ---- lines one after the other
-
-pub none-read : (bytes : List ℕ) → AreRead bytes [] 0
-none-read bytes = record { within = omega arith; whole = refl; text = refl }
-
-pub more-read : (bytes : List ℕ) (ls : List (List ℕ)) (from to : ℕ) (l : List ℕ) → AreRead bytes ls from → IsLineAt bytes from to l → AreRead bytes (ls ++ l ∷ []) to
-more-read bytes ls from to l r h = record {
-  within = h.within;
-  whole = r.whole ∙ ap (λ k. ls ++ k) h.whole ∙ sym (append_assoc ls (l ∷ []) (whole_lines (drop to bytes)));
-  text = r.text ∙ ap (λ k. flat_map line_bytes ls ++ k) h.text ∙ regroup-line (flat_map line_bytes ls) l (drop to bytes) ∙ sym (ap (λ k. k ++ drop to bytes) (flat_map-append line_bytes ls (l ∷ [])));
-}
 
 -- ---- the head
 
@@ -75,4 +65,4 @@ pub told : {A : Type 0} (P : Problem) (bytes : List ℕ) (m line : ℕ) (c why :
 told P bytes m line c why e f =
     let a : m ≡ line = cc e in
     let b : c ≡ why = cc e in
-    (f.0, sym a ∙ f.1, f.2, sym b ∙ f.3)
+    wrong-moved (structure_texts P) structure_causes bytes m line c why a b f

@@ -11,8 +11,8 @@
 --   their order; `places-stay`: where one more element changes nothing, more change nothing, so a table of one element is gone through at
 --   once. `FunctionLaws` (`kept-on`, `kept-false`, `kept-end`) goes by these places from tuple to tuple, whether a function keeps a
 --   domain. `PersistenceLaws.kept-rows`: rows are compared digit by digit, by `all-places`.
--- - *Reading.* `TextFaults.faulty`: bytes are no text where the lines that are read are those of some structure, and what follows is the
---   next line of none. `HeadFaults` and `SlotFaults` (`slot-fault`, `end-fault`, `after-fault`) say it of each line; `EntryReading` goes
+-- - *Reading.* By `FirstWrong.faulty` of `text_lines` bytes are no text where the lines that are read are those of some structure, and
+--   what follows is the next line of none. `HeadFaults` and `SlotFaults` (`slot-fault`, `end-fault`, `after-fault`) say it of each line; `EntryReading` goes
 --   from slot to slot, `NumberLaws` from number to number, `MakingLaws` from symbol to symbol, `SizeLaws` from argument to argument.
 -- - *Conditions.* `WorldChecks` and `CheckLaws` go from world to world and from symbol to symbol over the first condition that is broken
 --   (`first_broken`); `asked-first` to `asked-none` put the five groups together, by what the code knows of the setting, the symbols and

@@ -1,5 +1,5 @@
 -- Numbers that are a whole text, or stand behind a space.
-use Rattle.std.proofs.Common.{◌≡◌, ℕ, zero, suc, ◌+◌, ◌≤◌, ◌<◌, ◌^◌, List, [], ◌∷◌, ◌++◌, length, drop, Bool, true, ◌&&◌, IsTrue, refl, sym, ◌∙◌, ap, subst, append-nil, append_assoc, arith, decimal, nat_lt, lt-ltb, ltb-true, length-append, length-drop, get_or, drop-cons, add-one}
+use Rattle.std.proofs.Common.{◌≡◌, ℕ, zero, suc, ◌+◌, ◌≤◌, ◌<◌, ◌^◌, List, [], ◌∷◌, ◌++◌, length, drop, Bool, true, ◌&&◌, IsTrue, refl, sym, ◌∙◌, ap, subst, append-nil, append_assoc, arith, decimal, nat_lt, lt-ltb, ltb-true, length-drop, get_or, drop-cons, add-one}
 use Rattle.std.specs.List.{list_all}
 use Rattle.std.proofs.lemmas.Bool.{and_parts, and_from}
 use Rattle.std.proofs.lemmas.Grind.{flat_map-append}
@@ -15,7 +15,7 @@ use Rattle.formula_text.proofs.Places.{after-text, stands-front}
 
 -- ---- a number that is the whole text
 
-is-number : (n : ℕ) → n < 2 ^ 32 → IsTrue (is_number n)
+pub is-number : (n : ℕ) → n < 2 ^ 32 → IsTrue (is_number n)
 is-number n h = lt-ltb n (2 ^ 32) h
 
 pub number-there : (bytes : List ℕ) (n : ℕ) (rest : List ℕ) (from : ℕ) → n < 2 ^ 32 → StopsAt is_digit rest → drop from bytes ≡ decimal n ++ rest → IsNumberAt bytes from (from + length (decimal n)) n
@@ -24,21 +24,6 @@ number-there bytes n rest from h stops e = record {
   stands = stands-front bytes (decimal n) rest from e;
   ends = subst (StopsAt is_digit) (sym (after-text bytes (decimal n) rest from e)) stops;
 }
-
-pub whole-number : (bytes : List ℕ) (to n : ℕ) → IsNumberAt bytes 0 to n → to ≡ length bytes → bytes ≡ decimal n
-whole-number bytes to n h e = h.stands.there ∙ ap (λ k. decimal n ++ drop k bytes) e ∙ ap (λ l. decimal n ++ l) (drop_of_length-le bytes (let k : length bytes ≤ length bytes = omega arith in k)) ∙ append-nil (decimal n)
-
-pub no-whole_number : (bytes : List ℕ) → ((n to : ℕ) → ¬ IsNumberAt bytes 0 to n) → (n : ℕ) → n < 2 ^ 32 → bytes ≡ decimal n → ⊥
-no-whole_number bytes none n h e = none n (0 + length (decimal n)) (number-there bytes n [] 0 h tt (e ∙ sym (append-nil (decimal n))))
-
--- a number that is the whole text is read up to the end
-pub number-whole : (bytes : List ℕ) (to m n : ℕ) → IsNumberAt bytes 0 to m → n < 2 ^ 32 → bytes ≡ decimal n → to ≡ length bytes
-number-whole bytes to m n h small e =
-    let p = decimal-split m n (drop to bytes) [] (small-number m h.small) (small-number n (is-number n small)) h.ends tt (sym h.stands.there ∙ e ∙ sym (append-nil (decimal n))) in
-    let all : length bytes ≡ length (decimal m ++ drop to bytes) = ap length h.stands.there in
-    let none : length (drop to bytes) ≡ 0 = ap length p.1 in
-    let place = h.stands.place in
-    omega (arith, all, none, place, length-append (decimal m) (drop to bytes))
 
 pub same-number : (bytes : List ℕ) (m n : ℕ) → m < 2 ^ 32 → n < 2 ^ 32 → bytes ≡ decimal m → bytes ≡ decimal n → m ≡ n
 same-number bytes m n hm hn e f =

@@ -1,26 +1,27 @@
 -- The faults behind the head: the line after the entries that are read is none of the next slot, or is not the end, or something follows it.
-use Rattle.std.proofs.Common.{◌≡◌, ℕ, zero, suc, ◌+◌, ◌<◌, List, [], ◌∷◌, ◌++◌, length, take, drop, Bool, true, false, not, ◌&&◌, ◌||◌, ◌==◌, IsTrue, refl, sym, ◌∙◌, ap, subst, append_assoc, append-nil, arith, flat_map, length-append, codes, decimal, nat_lt, if◌then◌else◌}
+use Rattle.std.proofs.Common.{slice_get, ◌≡◌, ℕ, zero, suc, ◌+◌, ◌<◌, List, [], ◌∷◌, ◌++◌, length, drop, Bool, true, false, not, ◌&&◌, ◌||◌, ◌==◌, IsTrue, refl, sym, ◌∙◌, ap, subst, append_assoc, append-nil, arith, flat_map, length-append, codes, decimal, nat_lt, if◌then◌else◌}
 use Rattle.std.specs.List.{list_all, list_any}
 use Rattle.std.proofs.lemmas.Bool.{and_parts, and_from, eq-eqb, false≢true}
 use Rattle.std.proofs.lemmas.Fmt.{decimal_injective}
-use Rattle.std.proofs.Math.Seq.{take-append_seam}
 use Rattle.calculus.specs.declared.fault.StructureCause.TheVariants as cause
 use Rattle.calculus.specs.Syntax.{Problem}
 use Rattle.calculus.specs.Problems.{symbol_fits}
-use Rattle.calculus.specs.DerivationText.{line_bytes, setting_text}
+use Rattle.calculus.specs.DerivationText.{setting_text}
 use Rattle.calculus.specs.Equality.{list_eq}
-use Rattle.calculus.specs.Judgement.{is_end_line, whole_lines}
+use Rattle.calculus.specs.FirstWrong.{line_bytes, is_end_line, whole_lines, cause_after}
 use Rattle.calculus.specs.Structures.{Structure}
-use Rattle.calculus.specs.StructureText.{IsStructureText, can_be_stated, fits_table, is_size, structure_cause_after, structure_cause_at, structure_lines}
+use Rattle.calculus.specs.StructureText.{IsStructureText, can_be_stated, fits_table, is_size, structure_causes, structure_lines, structure_texts}
 use Rattle.calculus.proofs.StructureTextUnique.{stated-parts, size-small}
 use Rattle.calculus.proofs.DerivationTextLaws.{cancel}
 use Rattle.finite_model.specs.declared.slot.Form.{Form}
 use Rattle.finite_model.specs.declared.slot.Form.TheVariants.{Rising, Values, Digits}
-use Rattle.finite_model.specs.Reading.{AreRead, IsFaultOf}
+use Rattle.text_lines.specs.Lines.{AreRead}
+use Rattle.finite_model.specs.Reading.{IsFaultOf}
 use Rattle.finite_model.specs.Slots.{Place, are_entries, entry_lines, entry_text, head_of, is_bit_digit, is_entry, lines_of, slots}
 use Rattle.finite_model.proofs.SlotLaws.{entry-count, entries-joined, lines-joined}
 use Rattle.finite_model.proofs.EntryLaws.{stated-entries, entries-stated}
-use Rattle.finite_model.proofs.TextFaults.{IsBegun, faulty}
+use Rattle.text_lines.proofs.FirstWrong.{IsBegun, faulty, wrong-behind}
+use Rattle.finite_model.proofs.TextFaults.{no-feeds}
 
 -- ---- sizes
 
@@ -138,7 +139,7 @@ filled-fit (s ∷ ss) h =
     and_from (is_entry s.form (fill s.form)) (are_entries ss (filled ss)) (fill-fits s.form p.0) (filled-fit ss p.1)
 
 -- what is read of a head and of the first slots is the beginning of a structure
-pub begun-by : (P : Problem) (W E : ℕ) (ss ts : List Place) (es : List (List ℕ)) → IsTrue (is_size W) → IsTrue (is_size E) → IsTrue (list_all (fits_table E) P.symbols) → slots P.symbols W E ≡ ss ++ ts → IsTrue (are_entries ss es) → IsTrue (all_fill ts) → IsBegun P (head_of P W E ++ entry_lines ss es)
+pub begun-by : (P : Problem) (W E : ℕ) (ss ts : List Place) (es : List (List ℕ)) → IsTrue (is_size W) → IsTrue (is_size E) → IsTrue (list_all (fits_table E) P.symbols) → slots P.symbols W E ≡ ss ++ ts → IsTrue (are_entries ss es) → IsTrue (all_fill ts) → IsBegun (structure_texts P) (head_of P W E ++ entry_lines ss es)
 begun-by P W E ss ts es hw he fits parted h k =
     let n = entry-count ss es h in
     let all = es ++ filled ts in
@@ -146,7 +147,7 @@ begun-by P W E ss ts es hw he fits parted h k =
     let s = entries-stated P W E all hw he fits are in
     record {
       whose = _;
-      stated = s.stated;
+      printable = s.stated;
       rest = entry_lines ts (filled ts) ++ codes "end" ∷ [];
       all =
           s.lines
@@ -198,7 +199,7 @@ pub slot-fault : (P : Problem) → IsTrue (list_all symbol_fits P.symbols) → (
     → ((xs : List ℕ) (more : List (List ℕ)) → IsTrue (is_entry s.form xs) → ¬ (whole_lines (drop place bytes) ≡ (s.front ++ entry_text s.form xs) ∷ more))
     → IsFaultOf P bytes (length (head_of P W E ++ entry_lines ss es) + 1) cause.Line
 slot-fault P names bytes W E ss ts s es place hw he fits parted h k apart r none =
-    (length (head_of P W E ++ entry_lines ss es), refl, faulty P names bytes (head_of P W E ++ entry_lines ss es) (whole_lines (drop place bytes)) r.whole (begun-by P W E ss (s ∷ ts) es hw he fits parted h k) next done, sym here)
+    wrong-behind (structure_texts P) structure_causes bytes (head_of P W E ++ entry_lines ss es) (whole_lines (drop place bytes)) (length (head_of P W E ++ entry_lines ss es) + 1) cause.Line r.whole (faulty (structure_texts P) (no-feeds P names) bytes (head_of P W E ++ entry_lines ss es) (whole_lines (drop place bytes)) r.whole (begun-by P W E ss (s ∷ ts) es hw he fits parted h k) next done) refl (sym here)
   where
     next : (S : Structure) → IsTrue (can_be_stated P S) → (l : List ℕ) (rest more : List (List ℕ)) → structure_lines P S ≡ (head_of P W E ++ entry_lines ss es) ++ l ∷ rest → whole_lines (drop place bytes) ≡ l ∷ more → ⊥
     next S stated l rest more e first =
@@ -208,17 +209,15 @@ slot-fault P names bytes W E ss ts s es place hw he fits parted h k apart r none
 
     done : (S : Structure) → IsStructureText P S bytes → structure_lines P S ≡ head_of P W E ++ entry_lines ss es → ⊥
     done S t e =
-        let b = behind-head P W E hw he S t.stated (entry_lines ss es) e in
+        let b = behind-head P W E hw he S t.printable (entry_lines ss es) e in
         let n = entry-count (slots P.symbols W E) b.entries b.are in
         let m = entry-count ss es h in
         let total = ap length b.lines in
         let all = ap length parted in
         absurd (omega (arith, total, all, n, m, length-append (entry_lines (slots P.symbols W E) b.entries) (codes "end" ∷ []), length-append ss (s ∷ ts), lines-count (slots P.symbols W E) b.entries b.are, lines-count ss es h))
 
-    here : structure_cause_at bytes (length (head_of P W E ++ entry_lines ss es)) ≡ cause.Line
-    here =
-        ap structure_cause_after (ap (take (length (head_of P W E ++ entry_lines ss es))) r.whole ∙ take-append_seam (head_of P W E ++ entry_lines ss es) (whole_lines (drop place bytes)))
-        ∙ ap (λ b. if b then cause.TextAfterEnd else cause.Line) (no-end ss es apart)
+    here : cause_after structure_causes (head_of P W E ++ entry_lines ss es) (slice_get (whole_lines (drop place bytes)) 0) ≡ cause.Line
+    here = ap (λ b. if b then cause.TextAfterEnd else cause.Line) (no-end ss es apart)
 
 -- behind the entries of all slots stands another line than the end, or none
 pub end-fault : (P : Problem) → IsTrue (list_all symbol_fits P.symbols) → (bytes : List ℕ) (W E : ℕ) (es : List (List ℕ)) (place : ℕ)
@@ -227,9 +226,9 @@ pub end-fault : (P : Problem) → IsTrue (list_all symbol_fits P.symbols) → (b
     → ((more : List (List ℕ)) → ¬ (whole_lines (drop place bytes) ≡ codes "end" ∷ more))
     → IsFaultOf P bytes (length (head_of P W E ++ entry_lines (slots P.symbols W E) es) + 1) cause.Line
 end-fault P names bytes W E es place hw he fits h apart r none =
-    (length (head_of P W E ++ entry_lines (slots P.symbols W E) es), refl, faulty P names bytes (head_of P W E ++ entry_lines (slots P.symbols W E) es) (whole_lines (drop place bytes)) r.whole begun next done, sym here)
+    wrong-behind (structure_texts P) structure_causes bytes (head_of P W E ++ entry_lines (slots P.symbols W E) es) (whole_lines (drop place bytes)) (length (head_of P W E ++ entry_lines (slots P.symbols W E) es) + 1) cause.Line r.whole (faulty (structure_texts P) (no-feeds P names) bytes (head_of P W E ++ entry_lines (slots P.symbols W E) es) (whole_lines (drop place bytes)) r.whole begun next done) refl (sym here)
   where
-    begun : IsBegun P (head_of P W E ++ entry_lines (slots P.symbols W E) es)
+    begun : IsBegun (structure_texts P) (head_of P W E ++ entry_lines (slots P.symbols W E) es)
     begun = begun-by P W E (slots P.symbols W E) [] es hw he fits (sym (append-nil (slots P.symbols W E))) h refl
 
     next : (S : Structure) → IsTrue (can_be_stated P S) → (l : List ℕ) (rest more : List (List ℕ)) → structure_lines P S ≡ (head_of P W E ++ entry_lines (slots P.symbols W E) es) ++ l ∷ rest → whole_lines (drop place bytes) ≡ l ∷ more → ⊥
@@ -240,14 +239,12 @@ end-fault P names bytes W E es place hw he fits h apart r none =
 
     done : (S : Structure) → IsStructureText P S bytes → structure_lines P S ≡ head_of P W E ++ entry_lines (slots P.symbols W E) es → ⊥
     done S t e =
-        let b = behind-head P W E hw he S t.stated (entry_lines (slots P.symbols W E) es) e in
+        let b = behind-head P W E hw he S t.printable (entry_lines (slots P.symbols W E) es) e in
         let total = ap length b.lines in
         absurd (omega (arith, total, length-append (entry_lines (slots P.symbols W E) b.entries) (codes "end" ∷ []), lines-count (slots P.symbols W E) b.entries b.are, lines-count (slots P.symbols W E) es h))
 
-    here : structure_cause_at bytes (length (head_of P W E ++ entry_lines (slots P.symbols W E) es)) ≡ cause.Line
-    here =
-        ap structure_cause_after (ap (take (length (head_of P W E ++ entry_lines (slots P.symbols W E) es))) r.whole ∙ take-append_seam (head_of P W E ++ entry_lines (slots P.symbols W E) es) (whole_lines (drop place bytes)))
-        ∙ ap (λ b. if b then cause.TextAfterEnd else cause.Line) (no-end (slots P.symbols W E) es apart)
+    here : cause_after structure_causes (head_of P W E ++ entry_lines (slots P.symbols W E) es) (slice_get (whole_lines (drop place bytes)) 0) ≡ cause.Line
+    here = ap (λ b. if b then cause.TextAfterEnd else cause.Line) (no-end (slots P.symbols W E) es apart)
 
 any-last : (ls : List (List ℕ)) → list_any is_end_line (ls ++ codes "end" ∷ []) ≡ true
 any-last [] = refl
@@ -269,10 +266,10 @@ pub after-fault : (P : Problem) → IsTrue (list_all symbol_fits P.symbols) → 
     → AreRead bytes (lines_of P W E es) place → 0 < length (drop place bytes)
     → IsFaultOf P bytes (length (lines_of P W E es) + 1) cause.TextAfterEnd
 after-fault P names bytes W E es place hw he fits h r more_there =
-    (length (lines_of P W E es), refl, faulty P names bytes (lines_of P W E es) (whole_lines (drop place bytes)) r.whole begun next done, sym here)
+    wrong-behind (structure_texts P) structure_causes bytes (lines_of P W E es) (whole_lines (drop place bytes)) (length (lines_of P W E es) + 1) cause.TextAfterEnd r.whole (faulty (structure_texts P) (no-feeds P names) bytes (lines_of P W E es) (whole_lines (drop place bytes)) r.whole begun next done) refl (sym here)
   where
-    begun : IsBegun P (lines_of P W E es)
-    begun = let s = entries-stated P W E es hw he fits h in record { whose = _; stated = s.stated; rest = []; all = s.lines ∙ sym (append-nil (lines_of P W E es)) }
+    begun : IsBegun (structure_texts P) (lines_of P W E es)
+    begun = let s = entries-stated P W E es hw he fits h in record { whose = _; printable = s.stated; rest = []; all = s.lines ∙ sym (append-nil (lines_of P W E es)) }
 
     next : (S : Structure) → IsTrue (can_be_stated P S) → (l : List ℕ) (rest more : List (List ℕ)) → structure_lines P S ≡ lines_of P W E es ++ l ∷ rest → whole_lines (drop place bytes) ≡ l ∷ more → ⊥
     next S stated l rest more e first =
@@ -287,7 +284,5 @@ after-fault P names bytes W E es place hw he fits h r more_there =
         let none = nothing-left (flat_map line_bytes (lines_of P W E es)) (drop place bytes) all in
         absurd (omega (arith, none, more_there))
 
-    here : structure_cause_at bytes (length (lines_of P W E es)) ≡ cause.TextAfterEnd
-    here =
-        ap structure_cause_after (ap (take (length (lines_of P W E es))) r.whole ∙ take-append_seam (lines_of P W E es) (whole_lines (drop place bytes)))
-        ∙ ap (λ b. if b then cause.TextAfterEnd else cause.Line) (any-last (entry_lines (slots P.symbols W E) es))
+    here : cause_after structure_causes (lines_of P W E es) (slice_get (whole_lines (drop place bytes)) 0) ≡ cause.TextAfterEnd
+    here = ap (λ b. if b then cause.TextAfterEnd else cause.Line) (any-last (entry_lines (slots P.symbols W E) es))

@@ -1,23 +1,17 @@
 -- How far bytes are read as a structure's text.
-use Rattle.std.specs.Prelude.{◌≡◌, ℕ, ◌+◌, ◌≤◌, List, ◌∷◌, ◌++◌, length, drop, IsTrue}
-use Rattle.std.specs.List.{list_all, flat_map}
+use Rattle.std.specs.Prelude.{◌≡◌, ℕ, ◌+◌, List, ◌∷◌, ◌++◌, drop, IsTrue}
+use Rattle.std.specs.List.{list_all}
 use Rattle.calculus.specs.declared.fault.StructureCause.{StructureCause}
 use Rattle.calculus.specs.Syntax.{Problem}
-use Rattle.calculus.specs.DerivationText.{line_bytes}
-use Rattle.calculus.specs.Judgement.{whole_lines}
-use Rattle.calculus.specs.StructureText.{IsStructureFaulty, fits_table, is_size, structure_cause_at}
+use Rattle.calculus.specs.FirstWrong.{whole_lines, IsFirstWrong}
+use Rattle.calculus.specs.StructureText.{fits_table, is_size, structure_causes, structure_texts}
+use Rattle.text_lines.specs.Lines.{AreRead, IsLineAt}
 use Rattle.finite_model.specs.declared.head.Head.{Head}
 use Rattle.finite_model.specs.declared.slot.Slot.{Slot}
 use Rattle.finite_model.specs.Slots.{Place, are_entries, entry_lines, entry_text, head_of, is_entry, slots, table_sizes}
 
 abbrev pub the_slot : Slot → Place
 the_slot s = record { front = s.front.items; form = s.form }
-
--- a whole line stands at the place `from`, and `to` is the place after its line feed
-pub record IsLineAt (bytes : List ℕ) (from to : ℕ) (line : List ℕ) : Type 0 where
-  pub within : to ≤ length bytes
-  pub whole : whole_lines (drop from bytes) ≡ line ∷ whole_lines (drop to bytes)
-  pub text : drop from bytes ≡ line ++ 10 ∷ drop to bytes
 
 -- the line at the place `from` is that of this entry of the slot, and `to` is the place after it
 pub record IsSlotAt (bytes : List ℕ) (from to : ℕ) (s : Place) (xs : List ℕ) : Type 0 where
@@ -27,12 +21,6 @@ pub record IsSlotAt (bytes : List ℕ) (from to : ℕ) (s : Place) (xs : List �
 -- the line there is that of no entry of the slot
 abbrev pub NoSlotAt : List ℕ → ℕ → Place → Type 0
 NoSlotAt bytes from s = (xs : List ℕ) (more : List (List ℕ)) → IsTrue (is_entry s.form xs) → ¬ (whole_lines (drop from bytes) ≡ (s.front ++ entry_text s.form xs) ∷ more)
-
--- the bytes begin with these lines, and are read up to this place
-pub record AreRead (bytes : List ℕ) (lines : List (List ℕ)) (place : ℕ) : Type 0 where
-  pub within : place ≤ length bytes
-  pub whole : whole_lines bytes ≡ lines ++ whole_lines (drop place bytes)
-  pub text : bytes ≡ flat_map line_bytes lines ++ drop place bytes
 
 -- the head is read, and the tables have these sizes
 pub record IsHeadRead (P : Problem) (bytes : List ℕ) (h : Head) : Type 0 where
@@ -49,4 +37,4 @@ pub record AreEntriesRead (P : Problem) (bytes : List ℕ) (worlds elements : �
 
 -- the bytes are no text, and this is the number and the cause of the first wrong line
 abbrev pub IsFaultOf : Problem → List ℕ → ℕ → StructureCause → Type 0
-IsFaultOf P bytes line why = (n : ℕ) × (line ≡ n + 1) × IsStructureFaulty P bytes n × (why ≡ structure_cause_at bytes n)
+IsFaultOf P bytes line why = IsFirstWrong (structure_texts P) structure_causes bytes line why

@@ -2,25 +2,26 @@
 
 ghost use Rattle.std.specs.Prelude.{◌≡◌, ◌≢◌, ◌+◌, ◌++◌, ◌<◌, ◌≤◌, ◌^◌, ◌∷◌, Err, IfOk, IfSome, IsNone, IsTrue, List, None, Ok, Some, codes, decimal, drop, length, map, ℕ};
 ghost use Rattle.calculus.specs.DerivationText.{setting_text};
-ghost use Rattle.calculus.specs.Judgement.{whole_lines};
+ghost use Rattle.calculus.specs.FirstWrong.{whole_lines};
 ghost use Rattle.calculus.specs.Problems.{is_problem};
 ghost use Rattle.calculus.specs.StructureText.{fits_table, is_size};
 ghost use Rattle.calculus.specs.declared.limits.TheConstants.{MAX_TABLE_ENTRIES};
 ghost use Rattle.calculus.specs.Syntax as tree;
 ghost use Rattle.std.specs.List.{list_all};
 ghost use Rattle.calculus.specs.declared.fault.StructureCause.{StructureCause};
-ghost use Rattle.finite_model.specs.Reading.{IsFaultOf, IsHeadRead, IsLineAt};
+ghost use Rattle.finite_model.specs.Reading.{IsFaultOf, IsHeadRead};
+ghost use Rattle.text_lines.specs.Lines.{IsLineAt};
 ghost use Rattle.formula_core.specs.SymbolView.{the_symbol};
 
 use crate::fault::StructureRead;
-use crate::lines::{line_at, read_size, rest_after};
+use crate::sizes::read_size;
 use calculus::fault::StructureCause;
 use calculus::limits::MAX_TABLE_ENTRIES;
 use cop_base::NoMemory;
 use formula_core::Symbol;
-use formula_text::write_setting;
 use logic_rules::Problem;
 use std::alloc::{AllocError, AllocFailed, Global};
+use text_lines::{after_line, line_at, rest_after, setting_line};
 
 // How many worlds and how many elements there may be.
 const MOST: u8 = 64;
@@ -32,16 +33,6 @@ pub struct Head {
     pub elements: u8,
     pub sizes: Vec<usize>,
     pub end: usize,
-}
-
-fn setting_line(alloc: Global, problem: &Problem) -> Result<Vec<u8>, NoMemory>
-    ensures text { IfOk result (λ v. v.items ≡ codes "logic " ++ setting_text problem.now.setting) }
-    ensures well { IsTrue (is_problem problem.now) }
-{
-    let setting = problem.setting();
-    let mut line = Vec::from_slice(alloc, b"logic ")?;
-    write_setting(&mut line, setting)?;
-    Ok(line)
 }
 
 // The number of tuples of so many elements, where there are not too many.
@@ -86,16 +77,6 @@ fn table_sizes(
         sizes.push(size)?;
     }
     Ok(Some(sizes))
-}
-
-/// The place after a line that begins at a place.
-pub fn after_line(text: &[u8], from: usize, line: &[u8]) -> Option<usize>
-    requires { from ≤ length text.now }
-    ensures some { IfSome result (λ to. IsLineAt text.now from to line.now) }
-    ensures none { IsNone result → (more : List (List ℕ)) → ¬ (whole_lines (drop from text.now) ≡ line.now ∷ more) }
-{
-    let (found, end) = line_at(text, from)?;
-    if found == line { Some(end) } else { None }
 }
 
 // The size of a line that begins at a place, behind a word, and the place after the line.

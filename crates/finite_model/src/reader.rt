@@ -7,14 +7,14 @@ ghost use Rattle.calculus.specs.StructureText.{IsStructureJudgement, IsStructure
 ghost use Rattle.calculus.specs.Structures.{is_structure, is_true};
 ghost use Rattle.calculus.specs.declared.fault.StructureCause.{StructureCause};
 ghost use Rattle.calculus.specs.declared.fault.StructureCause.TheVariants as cause;
-ghost use Rattle.finite_model.specs.Reading.{AreEntriesRead, AreRead, IsFaultOf, IsHeadRead, IsSlotAt, NoSlotAt, the_slot};
+ghost use Rattle.finite_model.specs.Reading.{AreEntriesRead, IsFaultOf, IsHeadRead, IsSlotAt, NoSlotAt, the_slot};
 ghost use Rattle.finite_model.specs.Slots.{lines_of, slots};
 ghost use Rattle.finite_model.specs.StructureView.{the_lists};
+ghost use Rattle.text_lines.specs.Lines.{AreRead};
 
 use crate::conditions::check_conditions;
 use crate::fault::StructureRead;
-use crate::head::{Head, after_line, read_head};
-use crate::lines::line_at;
+use crate::head::{Head, read_head};
 use crate::making::structure_of;
 use crate::slot::Slot;
 use crate::slots::slots_of;
@@ -23,6 +23,7 @@ use calculus::fault::StructureCause;
 use formula_text::TextRead;
 use logic_rules::Problem;
 use std::alloc::{AllocFailed, Global};
+use text_lines::{after_line, line_at};
 
 // The entry of a slot whose line begins at a place, and the place after the line, which has this number.
 fn read_slot(

@@ -8,10 +8,10 @@ ghost use Rattle.finite_model.specs.Items.{IsItemAt, NoItemAt};
 ghost use Rattle.finite_model.specs.Reading.{the_slot};
 ghost use Rattle.finite_model.specs.Slots.{IsEntryText, IsSlotLine, is_bit_digit};
 
-use crate::lines::rest_after;
 use cop_base::NoMemory;
 use formula_text::{TextRead, read_number};
 use std::alloc::{AllocError, AllocFailed, Global};
+use text_lines::rest_after;
 
 /// What an entry is made of.
 #[derive(Clone, Copy, Debug, PartialEq, Eq)]

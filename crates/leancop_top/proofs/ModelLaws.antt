@@ -66,7 +66,7 @@ truth-not_bad false line cause e = absurd (cc)
 -- the verdict on a structure without a broken condition is its truth
 pub judged-truth : (P : Problem) (S : Structure) (bytes : List ℕ) → IsStructureText P S bytes → first_broken (conditions P S) ≡ None → IsStructureJudgement P bytes (truth_verdict (is_true P S))
 judged-truth P S bytes text sound = inr (record {
-  structure = S;
+  value = S;
   text = text;
   verdict = sym (ap (verdict_after_conditions P S) sound);
 })

@@ -37,7 +37,7 @@ stated P well t limit bytes h =
 pub stated-limit : (P : Problem) (t : Tableau) (limit : ℕ) (bytes : List ℕ) → IsClosedText P t limit bytes → IsTrue (is_limit limit)
 stated-limit P t limit bytes h =
     let x = tableau_moves t limit in
-    let front = and_parts (is_limit limit && chosen_is_written P.symbols x.start) (list_all (move_is_written P.symbols) x.moves) h.text.text.written in
+    let front = and_parts (is_limit limit && chosen_is_written P.symbols x.start) (list_all (move_is_written P.symbols) x.moves) h.text.text.printable in
     (and_parts (is_limit limit) (chosen_is_written P.symbols x.start) front.0).0
 
 pub stated-in : (told : Option Files) (P : Problem) (name : Word) (t : Tableau) (limit : ℕ) (bytes : List ℕ) → IsTrue (is_problem P) → HasBytes told name bytes → IsClosedText P t limit bytes → IsTableauIn told P name t limit

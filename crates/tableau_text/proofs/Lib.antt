@@ -1,7 +1,7 @@
 -- How this crate is proved.
 --
 -- Carried by `read` and `write`: what is read is what the text states (`IsMovesText`), a fault is that of the first wrong line
--- (`IsWrongTableauText`), and what is written states the moves.
+-- (`IsFirstWrong`), and what is written states the moves.
 --
 -- A text of ground values is one of *items*: a term, a character, a string, or a whole list of values (`Items.Item`). `Made S h xs i` says
 -- that the item i has the head h before its list xs: the name of a function symbol, the number of a spare constant, of an eigenvariable or

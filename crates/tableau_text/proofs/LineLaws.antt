@@ -3,11 +3,10 @@ use Rattle.std.proofs.Common.{◌≡◌, ℕ, suc, ◌+◌, ◌≤◌, List, [],
 use Rattle.std.specs.List.{AllByRecursion}
 use Rattle.plain_laws.proofs.Every.{each-push}
 use Rattle.plain_laws.proofs.Lists.{map-length}
-use Rattle.calculus.specs.declared.fault.TableauFault.{TableauFault}
 use Rattle.calculus.specs.Syntax.{Problem}
-use Rattle.calculus.specs.DerivationText.{line_bytes}
+use Rattle.calculus.specs.FirstWrong.{line_bytes}
 use Rattle.calculus.specs.TableauText as tree
-use Rattle.calculus.specs.TableauText.{IsWrongTableauText, tableau_rejected, tableau_head}
+use Rattle.calculus.specs.TableauText.{tableau_head}
 use Rattle.formula_core.specs.GroundLists.{GroundList, AreNormalValues, IsGrown}
 use Rattle.formula_core.specs.declared.ground.Values.{Values}
 use Rattle.formula_core.specs.declared.ground.GroundMark.TheVariants as mark
@@ -121,8 +120,3 @@ line-step P bytes limit a b start ms new place to line false count r g h l =
   where
     one : (n k : ℕ) → n ≡ k → n + 1 ≡ suc k
     one n k e = omega arith
-
--- ---- faults by the answers that tell them
-
-pub told : (P : Problem) (bytes : List ℕ) (m line : ℕ) (c why : TableauFault) → m ≡ line → c ≡ why → IsWrongTableauText P bytes (tableau_rejected m c) → IsWrongTableauText P bytes (tableau_rejected line why)
-told P bytes m line c why e f h = subst (λ k. IsWrongTableauText P bytes (tableau_rejected k why)) e (subst (λ k. IsWrongTableauText P bytes (tableau_rejected m k)) f h)

@@ -1,23 +1,21 @@
 -- Reading the text of a tableau line by line, and where it is wrong first.
-use Rattle.std.proofs.Common.{◌≡◌, ℕ, ◌+◌, List, [], ◌∷◌, ◌++◌, length, map, take, drop, Bool, true, false, ◌&&◌, IsTrue, None, Some, refl, sym, ◌∙◌, ap, subst, append_assoc, append-nil, flat_map, codes, if◌then◌else◌}
+use Rattle.std.proofs.Common.{Option, slice_get, ◌≡◌, ℕ, ◌+◌, List, [], ◌∷◌, ◌++◌, length, map, drop, Bool, true, false, ◌&&◌, IsTrue, None, Some, refl, sym, ◌∙◌, ap, subst, append_assoc, append-nil, flat_map, codes, if◌then◌else◌}
 use Rattle.std.specs.List.{list_all, list_any}
-use Rattle.std.proofs.Math.Seq.{take-append_seam}
 use Rattle.std.proofs.lemmas.Bool.{and_from, and_parts}
 use Rattle.std.proofs.lemmas.List.Folds.{list_all-append}
-use Rattle.std.proofs.lemmas.List.{append_cancel_left}
-use Rattle.plain_laws.proofs.Lists.{first-item}
 use Rattle.calculus.specs.declared.fault.TableauFault.{TableauFault}
 use Rattle.calculus.specs.declared.fault.TableauFault.TheVariants as fault
 use Rattle.calculus.specs.Syntax.{Symbol, Problem}
 use Rattle.calculus.specs.Problems.{is_problem}
-use Rattle.calculus.specs.DerivationText.{is_limit, line_bytes}
-use Rattle.calculus.specs.Judgement.{is_end_line, whole_lines}
-use Rattle.calculus.specs.TableauText.{Chosen, Move, reduction, extension, Moves, chosen_text, move_line, chosen_is_written, move_is_written, are_written, tableau_head, moves_lines, IsMovesText, IsMovesUpTo, IsMovesFaulty, tableau_cause_after, tableau_cause_at, tableau_rejected, IsWrongTableauText}
-use Rattle.text_lines.specs.Head.{IsHeadFault, IsHeadRead, formula_line, limit_line, setting_line}
+use Rattle.calculus.specs.DerivationText.{is_limit}
+use Rattle.calculus.specs.FirstWrong.{line_bytes, is_end_line, whole_lines, IsFaulty, cause_after, IsFirstWrong}
+use Rattle.calculus.specs.TableauText.{Chosen, Move, reduction, extension, Moves, chosen_text, move_line, chosen_is_written, move_is_written, tableau_head, IsMovesText, moves_texts, tableau_causes}
+use Rattle.text_lines.specs.Head.{IsHeadFault, IsHeadRead, lines_before}
 use Rattle.text_lines.specs.Lines.{AreRead, IsLineAt}
-use Rattle.text_lines.specs.declared.head_line.HeadLine.TheVariants.{First, Setting, Formula, Limit}
-use Rattle.text_lines.proofs.FirstWrong.{IsBegun, IsFirstWrong, IsRightUpTo, first-wrong}
-use Rattle.text_lines.proofs.StagedLines.{AreReadTo, Has, run, wrong-line, wrong-end}
+use Rattle.text_lines.specs.declared.head_line.HeadLine.{HeadLine}
+use Rattle.text_lines.proofs.FirstWrong.{wrong-behind}
+use Rattle.text_lines.proofs.HeadFaults.{HasHead, head-fault}
+use Rattle.text_lines.proofs.StagedLines.{AreReadTo, run, wrong-line, wrong-end}
 use Rattle.text_lines.proofs.WholeLines.{more-read}
 use Rattle.tableau_text.specs.MoveLines.{Line, of_start, of_move, last, line_text, line_is_written, Stage, starting, moving, ended, stage_after, body_to, fault_at, IsReadTo, with_move, IsChosenText, IsMoveLine}
 use Rattle.tableau_text.proofs.MoveFeeds.{moves-feed, written-moves}
@@ -25,74 +23,31 @@ use Rattle.tableau_text.proofs.MoveKinds.{the_kind, is-kind}
 
 -- ---- what is wrong first
 
-faulty : (P : Problem) (bytes : List ℕ) (n : ℕ) → IsFirstWrong (Has (the_kind P)) (moves_lines P) bytes n → IsMovesFaulty P bytes n
-faulty P bytes n h = record {
-  right = (h.right.0, to n h.right.0 h.right.1);
-  wrong = λ q. h.wrong (q.0, back q.0 q.1);
-  no_text = λ x t. h.no_text x t.written t.text;
-}
-  where
-    to : (n : ℕ) (x : Moves) → IsRightUpTo (Has (the_kind P)) (moves_lines P) bytes n x → IsMovesUpTo P bytes n x
-    to n x k = record { written = k.has; are_there = k.are_there; has_them = k.has_them; same = k.same }
+abbrev IsWrong : Problem → List ℕ → ℕ → TableauFault → Type 0
+IsWrong P bytes line why = IsFirstWrong (moves_texts P) tableau_causes bytes line why
 
-    back : {n : ℕ} (x : Moves) → IsMovesUpTo P bytes n x → IsRightUpTo (Has (the_kind P)) (moves_lines P) bytes n x
-    back x k = record { has = k.written; are_there = k.are_there; has_them = k.has_them; same = k.same }
-
-wrong-text : (P : Problem) (bytes : List ℕ) (seen tail : List (List ℕ)) (line : ℕ) (why : TableauFault) → whole_lines bytes ≡ seen ++ tail → IsFirstWrong (Has (the_kind P)) (moves_lines P) bytes (length seen) → line ≡ length seen + 1 → why ≡ tableau_cause_after seen → IsWrongTableauText P bytes (tableau_rejected line why)
-wrong-text P bytes seen tail line why whole h n w = record {
-  right_lines = length seen;
-  faulty = faulty P bytes (length seen) h;
-  verdict = λ i. tableau_rejected (n i) ((w ∙ sym cause) i);
-}
-  where
-    cause : tableau_cause_at bytes (length seen) ≡ tableau_cause_after seen
-    cause = ap tableau_cause_after (ap (take (length seen)) whole ∙ take-append_seam seen tail)
+wrong-text : (P : Problem) (bytes : List ℕ) (seen tail : List (List ℕ)) (line : ℕ) (why : TableauFault) → whole_lines bytes ≡ seen ++ tail → IsFaulty (moves_texts P) bytes (length seen) → line ≡ length seen + 1 → why ≡ cause_after tableau_causes seen (slice_get tail 0) → IsWrong P bytes line why
+wrong-text P bytes seen tail line why whole h n w = wrong-behind (moves_texts P) tableau_causes bytes seen tail line why whole h n w
 
 -- ---- the head
-
-abbrev version : List ℕ
-version = codes "leancop tableau 1"
 
 abbrev blank : ℕ → Moves
 blank n = record { limit = n; start = record { sides = []; values = [] }; moves = [] }
 
-record HasLine (P : Problem) (seen : List (List ℕ)) (x : Moves) (line : List ℕ) : Type 0 where
-  rest : List (List ℕ)
-  all : moves_lines P x ≡ seen ++ line ∷ rest
+begins-so : (P : Problem) → IsTrue (is_problem P) → HasHead (moves_texts P) (codes "leancop tableau 1") P
+begins-so P w = record {
+  feeds = moves-feed P w;
+  limit = λ (x : Moves). x.limit;
+  within = λ x h. (written-moves P x h).limit;
+  rest = λ (x : Moves). (codes "start " ++ chosen_text P.symbols x.start) ∷ (map (move_line P.symbols) x.moves ++ codes "end" ∷ []);
+  lines_are = λ x. refl;
+  blank = blank 1;
+  blank_printable = refl;
+}
 
-head-fault : (P : Problem) → IsTrue (is_problem P) → (bytes : List ℕ) (seen : List (List ℕ)) (place : ℕ) (line : Moves → List ℕ) → AreRead bytes seen place
-    → ((x : Moves) → HasLine P seen x (line x))
-    → ((x : Moves) → IsTrue (are_written P x) → (more : List (List ℕ)) → ¬ (whole_lines (drop place bytes) ≡ line x ∷ more))
-    → IsWrongTableauText P bytes (tableau_rejected (length seen + 1) (tableau_cause_after seen))
-head-fault P w bytes seen place line r has none =
-    wrong-text P bytes seen (whole_lines (drop place bytes)) (length seen + 1) (tableau_cause_after seen) r.whole
-    (first-wrong (Has (the_kind P)) (moves_lines P) (moves-feed P w) bytes seen (whole_lines (drop place bytes)) r.whole begun next done) refl refl
-  where
-    begun : IsBegun (Has (the_kind P)) (moves_lines P) seen
-    begun = record { whose = blank 1; has = refl; rest = line (blank 1) ∷ (has (blank 1)).rest; all = (has (blank 1)).all }
-
-    next : (x : Moves) → IsTrue (are_written P x) → (l : List ℕ) (rest more : List (List ℕ)) → moves_lines P x ≡ seen ++ l ∷ rest → whole_lines (drop place bytes) ≡ l ∷ more → ⊥
-    next x h l rest more same first =
-        let k = first-item l (line x) rest (has x).rest (append_cancel_left seen (l ∷ rest) (line x ∷ (has x).rest) (sym same ∙ (has x).all)) in
-        none x h more (first ∙ ap (λ (j : List ℕ). j ∷ more) k)
-
-    no_line : (l : List ℕ) (rest : List (List ℕ)) → l ∷ rest ≡ [] → ⊥
-    no_line l rest e = cc
-
-    done : (x : Moves) → IsTrue (are_written P x) → bytes ≡ flat_map line_bytes (moves_lines P x) → moves_lines P x ≡ seen → ⊥
-    done x h t same = no_line (line x) (has x).rest (append_cancel_left seen (line x ∷ (has x).rest) [] (sym (has x).all ∙ same ∙ sym (append-nil seen)))
-
-pub fault-first : (P : Problem) → IsTrue (is_problem P) → (bytes : List ℕ) → IsHeadFault (codes "leancop tableau 1") P bytes First → IsWrongTableauText P bytes (tableau_rejected 1 fault.Version)
-fault-first P w bytes h = head-fault P w bytes [] h.place (λ x. version) h.before (λ x. record { rest = _; all = refl }) (λ x p more. h.wrong version more refl)
-
-pub fault-setting : (P : Problem) → IsTrue (is_problem P) → (bytes : List ℕ) → IsHeadFault (codes "leancop tableau 1") P bytes Setting → IsWrongTableauText P bytes (tableau_rejected 2 fault.Setting)
-fault-setting P w bytes h = head-fault P w bytes (version ∷ []) h.place (λ x. setting_line P) h.before (λ x. record { rest = _; all = refl }) (λ x p more. h.wrong (setting_line P) more refl)
-
-pub fault-formula : (P : Problem) → IsTrue (is_problem P) → (bytes : List ℕ) → IsHeadFault (codes "leancop tableau 1") P bytes Formula → IsWrongTableauText P bytes (tableau_rejected 3 fault.Formula)
-fault-formula P w bytes h = head-fault P w bytes (version ∷ setting_line P ∷ []) h.place (λ x. formula_line P) h.before (λ x. record { rest = _; all = refl }) (λ x p more. h.wrong (formula_line P) more refl)
-
-pub fault-limit : (P : Problem) → IsTrue (is_problem P) → (bytes : List ℕ) → IsHeadFault (codes "leancop tableau 1") P bytes Limit → IsWrongTableauText P bytes (tableau_rejected 4 fault.Limit)
-fault-limit P w bytes h = head-fault P w bytes (version ∷ setting_line P ∷ formula_line P ∷ []) h.place (λ x. limit_line x.limit) h.before (λ x. record { rest = _; all = refl }) (λ x p more. h.wrong (limit_line x.limit) more (x.limit, (written-moves P x p).limit, refl))
+pub fault-head : (P : Problem) → IsTrue (is_problem P) → (bytes : List ℕ) (line : HeadLine) → IsHeadFault (codes "leancop tableau 1") P bytes line → (c : TableauFault) → ((next : Option (List ℕ)) → cause_after tableau_causes (lines_before (codes "leancop tableau 1") P line) next ≡ c)
+    → IsFirstWrong (moves_texts P) tableau_causes bytes (length (lines_before (codes "leancop tableau 1") P line) + 1) c
+fault-head P w bytes line h c why = head-fault (moves_texts P) tableau_causes (codes "leancop tableau 1") P (begins-so P w) bytes line h c why
 
 -- ---- behind the head
 
@@ -118,7 +73,7 @@ staged P w bytes place x false r = record {
   order = run-to P x.moves;
   begun = record {
     whose = x;
-    has = r.written;
+    printable = r.written;
     rest = codes "end" ∷ [];
     all = ap (λ l. (tableau_head P x.limit ++ (codes "start " ++ chosen_text P.symbols x.start) ∷ l) ++ codes "end" ∷ []) (sym (plain P.symbols x.moves));
   };
@@ -132,7 +87,7 @@ staged P w bytes place x true r = record {
   lines = r.lines;
   good = (is-kind P w).written x r.written;
   order = (is-kind P w).ends x r.written;
-  begun = record { whose = x; has = r.written; rest = []; all = (is-kind P w).lines_are x ∙ sym (append-nil (tableau_head P x.limit ++ map (line_text P.symbols) (body_to x true))) };
+  begun = record { whose = x; printable = r.written; rest = []; all = (is-kind P w).lines_are x ∙ sym (append-nil (tableau_head P x.limit ++ map (line_text P.symbols) (body_to x true))) };
   heads = λ d h. refl;
 }
 
@@ -175,7 +130,7 @@ end-read P bytes place to x line r h e = record { written = r.written; lines = o
 
 pub all-read : (P : Problem) → IsTrue (is_problem P) → (bytes : List ℕ) (place : ℕ) (x : Moves) → IsReadTo P bytes place x true → place ≡ length bytes → IsMovesText P x bytes
 all-read P w bytes place x r e = record {
-  written = r.written;
+  printable = r.written;
   text = r.lines.text ∙ ap (λ l. flat_map line_bytes (tableau_head P x.limit ++ map (line_text P.symbols) (body_to x true)) ++ l) (ap (λ n. drop n bytes) e ∙ drop-all bytes) ∙ append-nil _ ∙ ap (flat_map line_bytes) (sym ((is-kind P w).lines_are x));
 }
   where
@@ -197,9 +152,9 @@ an-end : (S : List Symbol) (ms : List Move) → list_any is_end_line (map (line_
 an-end S [] = refl
 an-end S (m ∷ ms) = rw (no-end S m) (an-end S ms)
 
-cause-of : (P : Problem) (x : Moves) (done : Bool) → fault_at done ≡ tableau_cause_after (tableau_head P x.limit ++ map (line_text P.symbols) (body_to x done))
-cause-of P x false = ap (λ b. if b then fault.TextAfterEnd else fault.Line) (sym (no-ends P.symbols x.moves))
-cause-of P x true = ap (λ b. if b then fault.TextAfterEnd else fault.Line) (sym (an-end P.symbols x.moves))
+cause-of : (P : Problem) (x : Moves) (done : Bool) (next : Option (List ℕ)) → fault_at done ≡ cause_after tableau_causes (tableau_head P x.limit ++ map (line_text P.symbols) (body_to x done)) next
+cause-of P x false next = ap (λ b. if b then fault.TextAfterEnd else fault.Line) (sym (no-ends P.symbols x.moves))
+cause-of P x true next = ap (λ b. if b then fault.TextAfterEnd else fault.Line) (sym (an-end P.symbols x.moves))
 
 abbrev pub lines_read : Problem → Moves → Bool → ℕ
 lines_read P x done = length (tableau_head P x.limit ++ map (line_text P.symbols) (body_to x done))
@@ -207,15 +162,15 @@ lines_read P x done = length (tableau_head P x.limit ++ map (line_text P.symbols
 -- a line that cannot stand there
 pub fault-line : (P : Problem) → IsTrue (is_problem P) → (bytes : List ℕ) (place to : ℕ) (x : Moves) (done : Bool) (line : List ℕ) (count : ℕ) → IsReadTo P bytes place x done → IsLineAt bytes place to line
     → ((l : Line) → IsTrue (line_is_written P.symbols l) → line ≡ line_text P.symbols l → stage_after (stage_at done) l ≡ None)
-    → count ≡ lines_read P x done → IsWrongTableauText P bytes (tableau_rejected (count + 1) (fault_at done))
+    → count ≡ lines_read P x done → IsWrong P bytes (count + 1) (fault_at done)
 fault-line P w bytes place to x done line count r h none n =
     let s = staged P w bytes place x done r in
     wrong-text P bytes (tableau_head P x.limit ++ map (line_text P.symbols) (body_to x done)) (whole_lines (drop place bytes)) (count + 1) (fault_at done) r.lines.whole
     (wrong-line (the_kind P) (is-kind P w) bytes place to (stage_at done) (tableau_head P x.limit) (body_to x done) line s h (λ l t. none l t.good t.same))
-    (ap (λ k. k + 1) n) (cause-of P x done)
+    (ap (λ k. k + 1) n) (cause-of P x done (slice_get (whole_lines (drop place bytes)) 0))
 
 pub fault-move : (P : Problem) → IsTrue (is_problem P) → (bytes : List ℕ) (place to : ℕ) (x : Moves) (line : List ℕ) (count : ℕ) → IsReadTo P bytes place x false → IsLineAt bytes place to line
-    → ¬ (line ≡ codes "end") → ((m : Move) → ¬ IsMoveLine P.symbols line m) → count ≡ lines_read P x false → IsWrongTableauText P bytes (tableau_rejected (count + 1) fault.Line)
+    → ¬ (line ≡ codes "end") → ((m : Move) → ¬ IsMoveLine P.symbols line m) → count ≡ lines_read P x false → IsWrong P bytes (count + 1) fault.Line
 fault-move P w bytes place to x line count r h not none n = fault-line P w bytes place to x false line count r h by n
   where
     by : (l : Line) → IsTrue (line_is_written P.symbols l) → line ≡ line_text P.symbols l → stage_after moving l ≡ None
@@ -223,7 +178,7 @@ fault-move P w bytes place to x line count r h not none n = fault-line P w bytes
     by (of_move m) g e = absurd (none m (record { written = g; same = e }))
     by last g e = absurd (not e)
 
-pub fault-after : (P : Problem) → IsTrue (is_problem P) → (bytes : List ℕ) (place to : ℕ) (x : Moves) (line : List ℕ) (count : ℕ) → IsReadTo P bytes place x true → IsLineAt bytes place to line → count ≡ lines_read P x true → IsWrongTableauText P bytes (tableau_rejected (count + 1) fault.TextAfterEnd)
+pub fault-after : (P : Problem) → IsTrue (is_problem P) → (bytes : List ℕ) (place to : ℕ) (x : Moves) (line : List ℕ) (count : ℕ) → IsReadTo P bytes place x true → IsLineAt bytes place to line → count ≡ lines_read P x true → IsWrong P bytes (count + 1) fault.TextAfterEnd
 fault-after P w bytes place to x line count r h n = fault-line P w bytes place to x true line count r h by n
   where
     by : (l : Line) → IsTrue (line_is_written P.symbols l) → line ≡ line_text P.symbols l → stage_after ended l ≡ None
@@ -233,11 +188,11 @@ fault-after P w bytes place to x line count r h n = fault-line P w bytes place t
 
 -- no line follows
 pub fault-end : (P : Problem) → IsTrue (is_problem P) → (bytes : List ℕ) (place : ℕ) (x : Moves) (done : Bool) (count : ℕ) → IsReadTo P bytes place x done → whole_lines (drop place bytes) ≡ []
-    → (done ≡ true → drop place bytes ≡ [] → ⊥) → count ≡ lines_read P x done → IsWrongTableauText P bytes (tableau_rejected (count + 1) (fault_at done))
+    → (done ≡ true → drop place bytes ≡ [] → ⊥) → count ≡ lines_read P x done → IsWrong P bytes (count + 1) (fault_at done)
 fault-end P w bytes place x done count r none unfinished n =
     wrong-text P bytes (tableau_head P x.limit ++ map (line_text P.symbols) (body_to x done)) (whole_lines (drop place bytes)) (count + 1) (fault_at done) r.lines.whole
     (wrong-end (the_kind P) (is-kind P w) bytes place (stage_at done) (tableau_head P x.limit) (body_to x done) (staged P w bytes place x done r) none (by done unfinished))
-    (ap (λ k. k + 1) n) (cause-of P x done)
+    (ap (λ k. k + 1) n) (cause-of P x done (slice_get (whole_lines (drop place bytes)) 0))
   where
     by : (done : Bool) → (done ≡ true → drop place bytes ≡ [] → ⊥) → stage_at done ≡ ended → drop place bytes ≡ [] → ⊥
     by false f e = absurd (cc e)
@@ -250,12 +205,12 @@ head-read P bytes place top h = record {
   lines = subst (λ k. AreRead bytes k place) (sym (append-nil (tableau_head P top))) h.lines;
   good = refl;
   order = refl;
-  begun = record { whose = blank top; has = and_from (is_limit top && true) true (and_from (is_limit top) true h.limit refl) refl; rest = _; all = refl };
+  begun = record { whose = blank top; printable = and_from (is_limit top && true) true (and_from (is_limit top) true h.limit refl) refl; rest = _; all = refl };
   heads = λ d k. refl;
 }
 
 pub fault-start : (P : Problem) → IsTrue (is_problem P) → (bytes : List ℕ) (place to top : ℕ) (line : List ℕ) → IsHeadRead (codes "leancop tableau 1") P bytes place top → IsLineAt bytes place to line
-    → ((i : Chosen) → IsTrue (chosen_is_written P.symbols i) → ¬ (line ≡ codes "start " ++ chosen_text P.symbols i)) → IsWrongTableauText P bytes (tableau_rejected 5 fault.Line)
+    → ((i : Chosen) → IsTrue (chosen_is_written P.symbols i) → ¬ (line ≡ codes "start " ++ chosen_text P.symbols i)) → IsWrong P bytes 5 fault.Line
 fault-start P w bytes place to top line r h none =
     wrong-text P bytes (tableau_head P top ++ []) (whole_lines (drop place bytes)) 5 fault.Line (head-read P bytes place top r).lines.whole
     (wrong-line (the_kind P) (is-kind P w) bytes place to starting (tableau_head P top) [] line (head-read P bytes place top r) h (λ l t. by l t.good t.same)) refl refl
@@ -265,7 +220,7 @@ fault-start P w bytes place to top line r h none =
     by (of_move m) g e = refl
     by last g e = refl
 
-pub fault-no_start : (P : Problem) → IsTrue (is_problem P) → (bytes : List ℕ) (place top : ℕ) → IsHeadRead (codes "leancop tableau 1") P bytes place top → whole_lines (drop place bytes) ≡ [] → IsWrongTableauText P bytes (tableau_rejected 5 fault.Line)
+pub fault-no_start : (P : Problem) → IsTrue (is_problem P) → (bytes : List ℕ) (place top : ℕ) → IsHeadRead (codes "leancop tableau 1") P bytes place top → whole_lines (drop place bytes) ≡ [] → IsWrong P bytes 5 fault.Line
 fault-no_start P w bytes place top r none =
     wrong-text P bytes (tableau_head P top ++ []) (whole_lines (drop place bytes)) 5 fault.Line (head-read P bytes place top r).lines.whole
     (wrong-end (the_kind P) (is-kind P w) bytes place starting (tableau_head P top) [] (head-read P bytes place top r) none (λ e. absurd (cc e))) refl refl

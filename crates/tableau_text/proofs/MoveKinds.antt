@@ -5,8 +5,8 @@ use Rattle.std.proofs.lemmas.Bool.{and_from, and_parts}
 use Rattle.plain_laws.proofs.Places.{differ-at}
 use Rattle.calculus.specs.Syntax.{Symbol, Problem}
 use Rattle.calculus.specs.Problems.{are_distinct, is_problem}
-use Rattle.calculus.specs.TableauText.{Chosen, Move, reduction, extension, Moves, chosen_text, move_line, chosen_is_written, move_is_written, are_written, tableau_head, moves_lines, moves_text}
-use Rattle.calculus.specs.DerivationText.{line_bytes}
+use Rattle.calculus.specs.TableauText.{Chosen, Move, reduction, extension, Moves, chosen_text, move_line, chosen_is_written, move_is_written, tableau_head, moves_texts}
+use Rattle.calculus.specs.FirstWrong.{line_bytes, text_of}
 use Rattle.calculus.proofs.TableauTextUnique.{moves-unique}
 use Rattle.logic_rules.proofs.ProblemFacts.{kept}
 use Rattle.text_lines.proofs.StagedLines.{IsKind, Kind, run}
@@ -15,8 +15,7 @@ use Rattle.tableau_text.proofs.MoveFeeds.{moves-feed, written-moves}
 
 abbrev pub the_kind : Problem → Kind Moves Line Stage
 the_kind P = record {
-  has = are_written P;
-  lines = moves_lines P;
+  texts = moves_texts P;
   head = λ x. tableau_head P x.limit;
   body = λ x. body_to x true;
   text = line_text P.symbols;
@@ -47,7 +46,7 @@ start-one P d i j hi hj e =
     let text : (k : List ℕ) → List ℕ = λ k. flat_map line_bytes ((tableau_head P 1 ++ k ∷ []) ++ codes "end" ∷ []) in
     let x : Moves = record { limit = 1; start = i; moves = [] } in
     let y : Moves = record { limit = 1; start = j; moves = [] } in
-    let same = moves-unique P d x y (moves_text P x) (record { written = and_from _ true hi refl; text = refl }) (record { written = and_from _ true hj refl; text = ap text e }) in
+    let same = moves-unique P d x y (text_of (moves_texts P) x) (record { printable = and_from _ true hi refl; text = refl }) (record { printable = and_from _ true hj refl; text = ap text e }) in
     ap (λ (m : Moves). m.start) same
 
 move-one : (P : Problem) → IsTrue (are_distinct P.symbols) → (m n : Move) → IsTrue (move_is_written P.symbols m) → IsTrue (move_is_written P.symbols n) → move_line P.symbols m ≡ move_line P.symbols n → m ≡ n
@@ -56,7 +55,7 @@ move-one P d m n hm hn e =
     let text : (k : List ℕ) → List ℕ = λ k. flat_map line_bytes ((tableau_head P 1 ++ (codes "start " ++ chosen_text P.symbols blank) ∷ k ∷ []) ++ codes "end" ∷ []) in
     let x : Moves = record { limit = 1; start = blank; moves = m ∷ [] } in
     let y : Moves = record { limit = 1; start = blank; moves = n ∷ [] } in
-    let same = moves-unique P d x y (moves_text P x) (record { written = and_from _ true hm refl; text = refl }) (record { written = and_from _ true hn refl; text = ap text e }) in
+    let same = moves-unique P d x y (text_of (moves_texts P) x) (record { printable = and_from _ true hm refl; text = refl }) (record { printable = and_from _ true hn refl; text = ap text e }) in
     first (ap (λ (z : Moves). z.moves) same)
   where
     first : {a b : Move} → a ∷ [] ≡ b ∷ [] → a ≡ b

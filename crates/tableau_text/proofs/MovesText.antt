@@ -4,8 +4,8 @@ use Rattle.std.specs.List.{list_all}
 use Rattle.std.proofs.lemmas.Bool.{and_parts}
 use Rattle.calculus.specs.Syntax.{Symbol, Problem}
 use Rattle.calculus.specs.Ground.{Value, values_tree}
-use Rattle.calculus.specs.DerivationText.{line_bytes}
-use Rattle.calculus.specs.TableauText.{Chosen, Moves, chosen_text, move_line, moves_text, sides_text, tableau_head, value_is_written, values_are_written, values_text, are_written, IsMovesText}
+use Rattle.calculus.specs.FirstWrong.{line_bytes, text_of}
+use Rattle.calculus.specs.TableauText.{Chosen, Moves, chosen_text, move_line, moves_texts, sides_text, tableau_head, value_is_written, values_are_written, values_text, are_written, IsMovesText}
 
 -- what holds of each item of a list that contracts see through a view holds of the view of each item
 pub all-item : {X Y : Type 0} (f : X → Y) (p : Y → Bool) (xs : List X) (k : ℕ) (x d : X) → k < length xs → x ≡ get_or xs k d → IsTrue (list_all p (map f xs)) → IsTrue (p (f x))
@@ -32,7 +32,7 @@ flat-append (x ∷ xs) ys = ap (λ l. line_bytes x ++ l) (flat-append xs ys) ∙
 -- the whole text, piece by piece
 pub text-by_steps : (P : Problem) (x : Moves) (a b c d e f : List ℕ) → IsTrue (are_written P x) → a ≡ flat_map line_bytes (tableau_head P x.limit) → b ≡ a ++ codes "start " → c ≡ b ++ chosen_text P.symbols x.start → d ≡ c ++ codes "\n"
     → e ≡ d ++ flat_map line_bytes (map (move_line P.symbols) x.moves) → f ≡ e ++ codes "end\n" → IsMovesText P x f
-text-by_steps P x a b c d e f w ea eb ec ed ee ef = record { written = w; text = ef ∙ ap (λ l. l ++ codes "end\n") all ∙ sym whole }
+text-by_steps P x a b c d e f w ea eb ec ed ee ef = record { printable = w; text = ef ∙ ap (λ l. l ++ codes "end\n") all ∙ sym whole }
   where
     fifth : d ≡ flat_map line_bytes (tableau_head P x.limit) ++ (line_bytes (codes "start " ++ chosen_text P.symbols x.start))
     fifth =
@@ -45,5 +45,5 @@ text-by_steps P x a b c d e f w ea eb ec ed ee ef = record { written = w; text =
         ∙ append_assoc (flat_map line_bytes (tableau_head P x.limit)) (line_bytes (codes "start " ++ chosen_text P.symbols x.start)) (flat_map line_bytes (map (move_line P.symbols) x.moves))
         ∙ sym (flat-append (tableau_head P x.limit) ((codes "start " ++ chosen_text P.symbols x.start) ∷ map (move_line P.symbols) x.moves))
 
-    whole : moves_text P x ≡ flat_map line_bytes (tableau_head P x.limit ++ (codes "start " ++ chosen_text P.symbols x.start) ∷ map (move_line P.symbols) x.moves) ++ codes "end\n"
+    whole : text_of (moves_texts P) x ≡ flat_map line_bytes (tableau_head P x.limit ++ (codes "start " ++ chosen_text P.symbols x.start) ∷ map (move_line P.symbols) x.moves) ++ codes "end\n"
     whole = flat-append (tableau_head P x.limit ++ (codes "start " ++ chosen_text P.symbols x.start) ∷ map (move_line P.symbols) x.moves) (codes "end" ∷ [])

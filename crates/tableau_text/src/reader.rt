@@ -4,7 +4,8 @@ ghost use Rattle.std.specs.Prelude.{◌≡◌, ◌+◌, ◌≤◌, ◌++◌, ◌
 ghost use Rattle.std.specs.List.{list_all};
 ghost use Rattle.calculus.specs.Problems.{are_distinct, is_problem, symbol_fits};
 ghost use Rattle.calculus.specs.Syntax as syntax;
-ghost use Rattle.calculus.specs.TableauText.{IsMovesText, IsWrongTableauText, tableau_rejected};
+ghost use Rattle.calculus.specs.FirstWrong.{IsFirstWrong};
+ghost use Rattle.calculus.specs.TableauText.{IsMovesText, moves_texts, tableau_causes};
 ghost use Rattle.calculus.specs.declared.fault.TableauFault.TheVariants as fault;
 ghost use Rattle.formula_core.specs.GroundLists.{AreNormalValues, IsGrown};
 ghost use Rattle.tableau_text.specs.MoveLines.{IsReadTo, fault_at};
@@ -26,7 +27,7 @@ use text_lines::{HeadFault, HeadLine, line_at, read_head, rest_after};
 // What is told of a wrong line of the head.
 fn head_fault(line: HeadLine) -> (u64, TableauFault)
     ensures { (P : syntax.Problem) (bytes : List ℕ) → IsTrue (is_problem P) → IsHeadFault (codes "leancop tableau 1") P bytes line
-        → IsWrongTableauText P bytes (tableau_rejected result.0 result.1) }
+        → IsFirstWrong (moves_texts P) tableau_causes bytes result.0 result.1 }
 {
     match line {
         HeadLine::First => (1, TableauFault::Version),
@@ -40,7 +41,7 @@ fn head_fault(line: HeadLine) -> (u64, TableauFault)
 fn read_limit(alloc: Global, problem: &Problem, bytes: &[u8]) -> Result<(u8, usize), ReadFault>
     ensures ok { IfOk result (λ r. IsHeadRead (codes "leancop tableau 1") problem.now bytes.now r.1 r.0) }
     ensures fault { (line : ℕ) (cause : TableauFault) → result ≡ Err (ReadFault.Wrong line cause)
-        → IsWrongTableauText problem.now bytes.now (tableau_rejected line cause) }
+        → IsFirstWrong (moves_texts problem.now) tableau_causes bytes.now line cause }
     ensures well { IsTrue (is_problem problem.now) }
 {
     match read_head(alloc, problem, b"leancop tableau 1", bytes) {
@@ -80,7 +81,7 @@ fn read_start(
     requires head { IsHeadRead (codes "leancop tableau 1") problem.now bytes.now from limit }
     ensures ok { IfOk result (λ r. IsReadTo problem.now bytes.now r.1 (moves_by limit table.new r.0 []) false) }
     ensures normal { IfOk result (λ r. AreNormalValues table.new r.0.values) }
-    ensures none { result ≡ Err TextRead.None → IsWrongTableauText problem.now bytes.now (tableau_rejected 5 fault.Line) }
+    ensures none { result ≡ Err TextRead.None → IsFirstWrong (moves_texts problem.now) tableau_causes bytes.now 5 fault.Line }
 {
     let symbols = problem.symbols();
     let Some((line, to)) = line_at(bytes, from) else {
@@ -149,7 +150,7 @@ fn read_moves(
     requires normal { AreNormalValues table.old start.now.values }
     ensures text { IfOk result (λ ms. IsMovesText problem.now (moves_by limit table.new start.now ms.items) bytes.now) }
     ensures fault { (line : ℕ) (cause : TableauFault) → result ≡ Err (ReadFault.Wrong line cause)
-        → IsWrongTableauText problem.now bytes.now (tableau_rejected line cause) }
+        → IsFirstWrong (moves_texts problem.now) tableau_causes bytes.now line cause }
 {
     let symbols = problem.symbols();
     let length = bytes.len();
@@ -185,7 +186,7 @@ fn read_moves(
 pub fn read(alloc: Global, problem: &Problem, bytes: &[u8]) -> Result<Moves, ReadFault>
     ensures text { IfOk result (λ x. IsMovesText problem.now (the_moves x) bytes.now) }
     ensures fault { (line : ℕ) (cause : TableauFault) → result ≡ Err (ReadFault.Wrong line cause)
-        → IsWrongTableauText problem.now bytes.now (tableau_rejected line cause) }
+        → IsFirstWrong (moves_texts problem.now) tableau_causes bytes.now line cause }
     ensures well { IsTrue (is_problem problem.now) }
 {
     let (limit, from) = read_limit(alloc, problem, bytes)?;

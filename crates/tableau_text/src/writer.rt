@@ -2,7 +2,7 @@
 
 ghost use Rattle.std.specs.Prelude.{◌≡◌, ◌++◌, map, IsTrue, IfOk, OnOk};
 ghost use Rattle.std.specs.List.{flat_map, list_all};
-ghost use Rattle.calculus.specs.DerivationText.{line_bytes};
+ghost use Rattle.calculus.specs.FirstWrong.{line_bytes};
 ghost use Rattle.calculus.specs.TableauText.{IsMovesText, are_written, move_is_written, move_line};
 ghost use Rattle.tableau_text.specs.MovesView.{the_move, the_moves};
 

@@ -1,8 +1,8 @@
 -- A head, line by line, and written piece by piece.
 use Rattle.std.proofs.Common.{◌≡◌, ℕ, List, [], ◌∷◌, ◌++◌, drop, IsTrue, Result, Err, ◌∙◌, ap, subst, sym, append_assoc, append-nil, decimal, codes, flat_map}
 use Rattle.calculus.specs.Syntax.{Problem}
-use Rattle.calculus.specs.DerivationText.{is_limit, line_bytes, setting_text}
-use Rattle.calculus.specs.Judgement.{whole_lines}
+use Rattle.calculus.specs.DerivationText.{is_limit, setting_text}
+use Rattle.calculus.specs.FirstWrong.{line_bytes, whole_lines}
 use Rattle.calculus.specs.Text.{formula_text}
 use Rattle.text_lines.proofs.WholeLines.{more-read, none-read}
 use Rattle.text_lines.specs.Head.{IsHeadFault, IsHeadRead, formula_line, head_of, limit_line, setting_line}

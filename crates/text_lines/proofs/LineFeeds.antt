@@ -1,6 +1,7 @@
 -- No name, term, formula or label has a line feed in it, nor a line of a head.
-use Rattle.std.proofs.Common.{◌≡◌, ℕ, zero, suc, ◌+◌, ◌-◌, ◌^◌, ◌<◌, ◌≤◌, List, [], ◌∷◌, ◌++◌, map, Bool, true, not, ◌&&◌, ◌||◌, ◌==◌, IsTrue, refl, sym, ◌∙◌, ap, subst, decimal, nat_le, leb-true, arith, inl, inr, lit<, flat_map, codes, lt_of_le_of_lt}
+use Rattle.std.proofs.Common.{◌/◌, ◌%◌, false, nat_lt, if◌then◌else◌, ◌≡◌, ℕ, zero, suc, ◌+◌, ◌-◌, ◌^◌, ◌<◌, ◌≤◌, List, [], ◌∷◌, ◌++◌, map, Bool, true, not, ◌&&◌, ◌||◌, ◌==◌, IsTrue, refl, sym, ◌∙◌, ap, subst, decimal, nat_le, leb-true, arith, inl, inr, lit<, flat_map, codes, lt_of_le_of_lt}
 use Rattle.std.specs.List.{list_all, join_with_byte}
+use Rattle.std.specs.Fmt.{digit_glyph, digits_onto, digits}
 use Rattle.std.proofs.lemmas.Bool.{and_parts, and_from, cases_Bool, eqb-true, false≢true}
 use Rattle.std.proofs.lemmas.List.Folds.{list_all-append}
 use Rattle.calculus.specs.declared.symbol.SymbolClass.{SymbolClass}
@@ -16,9 +17,8 @@ use Rattle.calculus.specs.Problems.{formula_fits, has_predicate, is_modal, is_na
 use Rattle.calculus.specs.Equality.{list_eq}
 use Rattle.calculus.specs.Derivations.{Mark, new_mark, spare_mark, Label}
 use Rattle.calculus.specs.DerivationText.{domains_text, is_limit, is_name_number, label_is_written, logic_text, mark_is_written, setting_text, term_is_written, terms_are_written}
-use Rattle.calculus.specs.Text.{args_text, atom_text, equation_text, escaped, formula_text, is_digit, is_equality, is_lower_word, is_number, label_text, mark_text, more_args_text, name_text, quantified_text, joined_text, symbol_at, term_text, text_by_class, variable_text}
+use Rattle.calculus.specs.Text.{args_text, atom_text, equation_text, escaped, formula_text, is_equality, is_lower_word, is_number, label_text, mark_text, more_args_text, name_text, quantified_text, joined_text, symbol_at, term_text, text_by_class, variable_text}
 use Rattle.calculus.proofs.EqualityLaws.{list_eq-tells, nat_eq-tells}
-use Rattle.calculus.proofs.TextLaws.{decimal-digits}
 use Rattle.calculus.proofs.TermTextLaws.{small-number}
 use Rattle.logic_rules.proofs.ProblemFacts.{kept}
 use Rattle.text_lines.specs.Head.{head_of}
@@ -32,27 +32,41 @@ NoFeed bytes = IsTrue (list_all is_no_feed bytes)
 pub join : (a b : List ℕ) → NoFeed a → NoFeed b → NoFeed (a ++ b)
 join a b h k = list_all-append is_no_feed a b ∙ and_from (list_all is_no_feed a) (list_all is_no_feed b) h k
 
-before : (b : ℕ) (bs : List ℕ) → IsTrue (is_no_feed b) → NoFeed bs → NoFeed (b ∷ bs)
+pub before : (b : ℕ) (bs : List ℕ) → IsTrue (is_no_feed b) → NoFeed bs → NoFeed (b ∷ bs)
 before b bs h k = and_from (is_no_feed b) (list_all is_no_feed bs) h k
 
-no_ten : (b : ℕ) → 10 < b → IsTrue (is_no_feed b)
-no_ten b h = elim (cases_Bool (b == 10)) [
-  | inl e ↦ absurd (big b h (eqb-true b 10 e))
-  | inr e ↦ rw e refl
+pub not_ten : (b : ℕ) → ¬ (b ≡ 10) → IsTrue (is_no_feed b)
+not_ten b n = elim (cases_Bool (b == 10)) [
+  | inl e ↦ absurd (n (eqb-true b 10 e))
+  | inr e ↦ ap not e
 ]
-  where
-    big : (b : ℕ) → 10 < b → b ≡ 10 → ⊥
-    big b h e = omega arith
 
 weaker : (p : ℕ → Bool) → ((b : ℕ) → IsTrue (p b) → IsTrue (is_no_feed b)) → (bs : List ℕ) → IsTrue (list_all p bs) → NoFeed bs
 weaker p f [] h = refl
 weaker p f (b ∷ bs) h = let q = and_parts (p b) (list_all p bs) h in before b bs (f b q.0) (weaker p f bs q.1)
 
-digit-feed : (b : ℕ) → IsTrue (is_digit b) → IsTrue (is_no_feed b)
-digit-feed b h = let k = leb-true 48 b (and_parts (nat_le 48 b) (nat_le b 57) h).0 in no_ten b (omega arith)
+glyph-feed : (u : Bool) (d : ℕ) → IsTrue (is_no_feed (digit_glyph u d))
+glyph-feed u d = by (nat_lt d 10) u
+  where
+    by : (b u : Bool) → IsTrue (is_no_feed (if b then 48 + d else (if u then 55 + d else 87 + d)))
+    by true u = not_ten (48 + d) (λ e. omega arith)
+    by false true = not_ten (55 + d) (λ e. omega arith)
+    by false false = not_ten (87 + d) (λ e. omega arith)
+
+digits-feed : (k base : ℕ) (u : Bool) (n : ℕ) (acc : List ℕ) → NoFeed acc → NoFeed (digits_onto k base u n acc)
+digits-feed zero base u n acc h = h
+digits-feed (suc k) base u n acc h = by (digits-feed k base u) (n / base == 0)
+  where
+    by : ((m : ℕ) (more : List ℕ) → NoFeed more → NoFeed (digits_onto k base u m more)) → (b : Bool) → NoFeed (if b then digit_glyph u (n % base) ∷ acc else digits_onto k base u (n / base) (digit_glyph u (n % base) ∷ acc))
+    by rest true = before (digit_glyph u (n % base)) acc (glyph-feed u (n % base)) h
+    by rest false = rest (n / base) (digit_glyph u (n % base) ∷ acc) (before (digit_glyph u (n % base)) acc (glyph-feed u (n % base)) h)
+
+pub decimal-feed : (n : ℕ) → NoFeed (decimal n)
+unfolding digits
+decimal-feed n = digits-feed 64 10 false n [] refl
 
 pub number-feed : (n : ℕ) → n < 2 ^ 64 → NoFeed (decimal n)
-number-feed n h = weaker is_digit digit-feed (decimal n) (decimal-digits n h)
+number-feed n h = decimal-feed n
 
 pub small-feed : (n : ℕ) → IsTrue (is_number n) → NoFeed (decimal n)
 small-feed n h = number-feed n (small-number n h)
@@ -90,7 +104,7 @@ name-feed bs h = elim (cases_Bool (is_lower_word bs)) [
   | inr e ↦ rw e (before 39 (flat_map escaped bs ++ 39 ∷ []) refl (join (flat_map escaped bs) (39 ∷ []) (all_escaped-feed bs (name-bytes bs h)) refl))
 ]
 
-class-feed : (c : SymbolClass) (name : List ℕ) (n : ℕ) → IsTrue (name_fits c name n) → NoFeed (text_by_class c name)
+pub class-feed : (c : SymbolClass) (name : List ℕ) (n : ℕ) → IsTrue (name_fits c name n) → NoFeed (text_by_class c name)
 class-feed Function name n h = name-feed name h
 class-feed Predicate name n h = name-feed name h
 class-feed Equality name n h =
@@ -212,7 +226,7 @@ domains-feed a Constant h = join a (codes " constant") h refl
 domains-feed a Cumulative h = join a (codes " cumulative") h refl
 domains-feed a Varying h = join a (codes " varying") h refl
 
-logic-feed : (l : Logic) (d : Domains) → NoFeed (logic_text l d)
+pub logic-feed : (l : Logic) (d : Domains) → NoFeed (logic_text l d)
 logic-feed Classical d = refl
 logic-feed Intuitionistic d = refl
 logic-feed D d = domains-feed (codes "d") d refl

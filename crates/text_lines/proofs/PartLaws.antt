@@ -1,5 +1,5 @@
 -- What the parts of a line begin with, and that nothing else does.
-use Rattle.std.proofs.Common.{◌≡◌, ℕ, ◌+◌, ◌≤◌, ◌<◌, ◌^◌, List, [], length, Bool, IsTrue, sym, ◌∙◌, ap, subst, append-nil, decimal, nat_le, leb-true, arith, codes, lt-ltb, lit<, lt_of_le_of_lt, ◌==◌, false}
+use Rattle.std.proofs.Common.{◌≡◌, ℕ, ◌+◌, ◌≤◌, ◌<◌, ◌^◌, List, [], length, Bool, sym, ◌∙◌, ap, subst, append-nil, decimal, nat_le, leb-true, arith, lt-ltb, lit<, lt_of_le_of_lt, ◌==◌, false}
 use Rattle.std.proofs.lemmas.Bool.{and_parts, true≢false}
 use Rattle.calculus.specs.Derivations.{Label}
 use Rattle.calculus.specs.DerivationText.{IsLabelAt}

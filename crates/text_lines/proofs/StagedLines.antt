@@ -6,16 +6,13 @@ use Rattle.std.proofs.lemmas.Bool.{and_parts}
 use Rattle.std.proofs.lemmas.List.Prefix.{front_rest}
 use Rattle.plain_laws.proofs.Options.{none-some, some-eq}
 use Rattle.plain_laws.proofs.Lists.{nothing-after, cons-parts}
-use Rattle.calculus.specs.DerivationText.{line_bytes}
-use Rattle.calculus.specs.Judgement.{whole_lines}
+use Rattle.calculus.specs.FirstWrong.{line_bytes, whole_lines, TextKind, IsTextOf, IsFaulty}
 use Rattle.text_lines.specs.Lines.{AreRead, IsLineAt}
-use Rattle.text_lines.proofs.FirstWrong.{IsBegun, IsFirstWrong, first-wrong}
-use Rattle.text_lines.proofs.LineFeeds.{AreNoFeeds}
+use Rattle.text_lines.proofs.FirstWrong.{HaveNoFeeds, IsBegun, faulty}
 
--- a kind of text: D are the values that have one, L those of a line after the head, S the stages
+-- a kind of text with lines that stages order: D are the values that have one, L those of a line after the head, S the stages
 pub record Kind (D L S : Type 0) : Type 0 where
-  pub has : D → Bool
-  pub lines : D → List (List ℕ)
+  pub texts : TextKind D
   pub head : D → List (List ℕ)
   pub body : D → List L
   pub text : L → List ℕ
@@ -25,7 +22,7 @@ pub record Kind (D L S : Type 0) : Type 0 where
   pub after : S → L → Option S
 
 abbrev pub Has : {D L S : Type 0} → Kind D L S → D → Type 0
-Has k d = IsTrue (k.has d)
+Has k d = IsTrue (k.texts.printable d)
 
 abbrev pub advanced : {D L S : Type 0} → Kind D L S → Option S → L → Option S
 advanced k None x = None
@@ -38,8 +35,8 @@ run k o (x ∷ xs) = run k (advanced k o x) xs
 
 -- what is asked of a kind
 pub record IsKind {D L S : Type 0} (k : Kind D L S) : Type 0 where
-  pub lines_are : (d : D) → k.lines d ≡ k.head d ++ map k.text (k.body d)
-  pub feeds : (d : D) → Has k d → AreNoFeeds (k.lines d)
+  pub lines_are : (d : D) → k.texts.lines d ≡ k.head d ++ map k.text (k.body d)
+  pub feeds : HaveNoFeeds k.texts
   pub written : (d : D) → Has k d → IsTrue (list_all k.good (k.body d))
   pub ends : (d : D) → Has k d → run k (Some k.first) (k.body d) ≡ Some k.ended
   pub one : (x y : L) → IsTrue (k.good x) → IsTrue (k.good y) → k.text x ≡ k.text y → x ≡ y
@@ -54,7 +51,7 @@ pub record AreReadTo {D L S : Type 0} (k : Kind D L S) (bytes : List ℕ) (place
   pub lines : AreRead bytes (head ++ map k.text xs) place
   pub good : IsTrue (list_all k.good xs)
   pub order : run k (Some k.first) xs ≡ Some s
-  pub begun : IsBegun (Has k) k.lines (head ++ map k.text xs)
+  pub begun : IsBegun k.texts (head ++ map k.text xs)
   pub heads : (d : D) → Has k d → length (k.head d) ≡ length head
 
 -- ---- stages
@@ -81,16 +78,16 @@ begins k w (x ∷ xs) (y ∷ ys) rest hx hy e =
     let r = begins k w xs ys rest px.1 py.1 h.1 in
     (r.0, (λ i. same i ∷ r.1 i), r.2, r.3)
 
-after-head : {D L S : Type 0} (k : Kind D L S) → IsKind k → (d : D) (head ls rest : List (List ℕ)) → length (k.head d) ≡ length head → k.lines d ≡ (head ++ ls) ++ rest → map k.text (k.body d) ≡ ls ++ rest
+after-head : {D L S : Type 0} (k : Kind D L S) → IsKind k → (d : D) (head ls rest : List (List ℕ)) → length (k.head d) ≡ length head → k.texts.lines d ≡ (head ++ ls) ++ rest → map k.text (k.body d) ≡ ls ++ rest
 after-head k w d head ls rest n e =
-    sym (front_rest (k.lines d) (k.head d) (map k.text (k.body d)) (w.lines_are d))
-    ∙ ap (λ m. drop m (k.lines d)) n
-    ∙ front_rest (k.lines d) head (ls ++ rest) (e ∙ append_assoc head ls rest)
+    sym (front_rest (k.texts.lines d) (k.head d) (map k.text (k.body d)) (w.lines_are d))
+    ∙ ap (λ m. drop m (k.texts.lines d)) n
+    ∙ front_rest (k.texts.lines d) head (ls ++ rest) (e ∙ append_assoc head ls rest)
 
 -- a line that may not stand here is in no text that begins so
 refused : {D L S : Type 0} (k : Kind D L S) → IsKind k → (bytes : List ℕ) (place : ℕ) (s : S) (head : List (List ℕ)) (xs : List L) → AreReadTo k bytes place s head xs
     → (l : List ℕ) → ((x : L) → Spells k l x → k.after s x ≡ None)
-    → (d : D) → Has k d → (rest : List (List ℕ)) → k.lines d ≡ (head ++ map k.text xs) ++ l ∷ rest → ⊥
+    → (d : D) → Has k d → (rest : List (List ℕ)) → k.texts.lines d ≡ (head ++ map k.text xs) ++ l ∷ rest → ⊥
 refused {D} {L} {S} k w bytes place s head xs r l none d h rest same =
     let f = after-head k w d head (map k.text xs) (l ∷ rest) (r.heads d h) same in
     let b = begins k w xs (k.body d) (l ∷ rest) r.good (w.written d h) f in
@@ -107,7 +104,7 @@ refused {D} {L} {S} k w bytes place s head xs r l none d h rest same =
 
 -- where these are all lines, they end
 whole-ends : {D L S : Type 0} (k : Kind D L S) → IsKind k → (bytes : List ℕ) (place : ℕ) (s : S) (head : List (List ℕ)) (xs : List L) → AreReadTo k bytes place s head xs
-    → (d : D) → Has k d → k.lines d ≡ head ++ map k.text xs → s ≡ k.ended
+    → (d : D) → Has k d → k.texts.lines d ≡ head ++ map k.text xs → s ≡ k.ended
 whole-ends {D} {L} {S} k w bytes place s head xs r d h same =
     let f = after-head k w d head (map k.text xs) [] (r.heads d h) (same ∙ sym (append-nil (head ++ map k.text xs))) in
     let b = begins k w xs (k.body d) [] r.good (w.written d h) f in
@@ -121,11 +118,11 @@ whole-ends {D} {L} {S} k w bytes place s head xs r d h same =
 
 -- the next line may not stand here
 pub wrong-line : {D L S : Type 0} (k : Kind D L S) → IsKind k → (bytes : List ℕ) (place to : ℕ) (s : S) (head : List (List ℕ)) (xs : List L) (l : List ℕ) → AreReadTo k bytes place s head xs → IsLineAt bytes place to l
-    → ((x : L) → Spells k l x → k.after s x ≡ None) → IsFirstWrong (Has k) k.lines bytes (length (head ++ map k.text xs))
+    → ((x : L) → Spells k l x → k.after s x ≡ None) → IsFaulty k.texts bytes (length (head ++ map k.text xs))
 wrong-line {D} {L} {S} k w bytes place to s head xs l r here none =
-    first-wrong (Has k) k.lines w.feeds bytes (head ++ map k.text xs) (l ∷ whole_lines (drop to bytes)) (r.lines.whole ∙ ap (λ m. (head ++ map k.text xs) ++ m) here.whole) r.begun next done
+    faulty k.texts w.feeds bytes (head ++ map k.text xs) (l ∷ whole_lines (drop to bytes)) (r.lines.whole ∙ ap (λ m. (head ++ map k.text xs) ++ m) here.whole) r.begun next done
   where
-    next : (d : D) → Has k d → (j : List ℕ) (rest more : List (List ℕ)) → k.lines d ≡ (head ++ map k.text xs) ++ j ∷ rest → l ∷ whole_lines (drop to bytes) ≡ j ∷ more → ⊥
+    next : (d : D) → Has k d → (j : List ℕ) (rest more : List (List ℕ)) → k.texts.lines d ≡ (head ++ map k.text xs) ++ j ∷ rest → l ∷ whole_lines (drop to bytes) ≡ j ∷ more → ⊥
     next d h j rest more same first =
         refused k w bytes place s head xs r l none d h rest (same ∙ ap (λ (i : List ℕ). (head ++ map k.text xs) ++ i ∷ rest) (sym (cons-parts _ _ _ _ first).0))
 
@@ -133,19 +130,19 @@ wrong-line {D} {L} {S} k w bytes place to s head xs l r here none =
     no_more [] b e = cc
     no_more (x ∷ a) b e = cc
 
-    done : (d : D) → Has k d → bytes ≡ flat_map line_bytes (k.lines d) → k.lines d ≡ head ++ map k.text xs → ⊥
-    done d h t same = no_more l (drop to bytes) (sym here.text ∙ nothing-after bytes (flat_map line_bytes (head ++ map k.text xs)) (drop place bytes) r.lines.text (t ∙ ap (flat_map line_bytes) same))
+    done : (d : D) → IsTextOf k.texts d bytes → k.texts.lines d ≡ head ++ map k.text xs → ⊥
+    done d t same = no_more l (drop to bytes) (sym here.text ∙ nothing-after bytes (flat_map line_bytes (head ++ map k.text xs)) (drop place bytes) r.lines.text (t.text ∙ ap (flat_map line_bytes) same))
 
 -- no whole line follows, and the text has not ended as it should
 pub wrong-end : {D L S : Type 0} (k : Kind D L S) → IsKind k → (bytes : List ℕ) (place : ℕ) (s : S) (head : List (List ℕ)) (xs : List L) → AreReadTo k bytes place s head xs → whole_lines (drop place bytes) ≡ []
-    → (s ≡ k.ended → drop place bytes ≡ [] → ⊥) → IsFirstWrong (Has k) k.lines bytes (length (head ++ map k.text xs))
+    → (s ≡ k.ended → drop place bytes ≡ [] → ⊥) → IsFaulty k.texts bytes (length (head ++ map k.text xs))
 wrong-end {D} {L} {S} k w bytes place s head xs r none unfinished =
-    first-wrong (Has k) k.lines w.feeds bytes (head ++ map k.text xs) [] (r.lines.whole ∙ ap (λ m. (head ++ map k.text xs) ++ m) none) r.begun next done
+    faulty k.texts w.feeds bytes (head ++ map k.text xs) [] (r.lines.whole ∙ ap (λ m. (head ++ map k.text xs) ++ m) none) r.begun next done
   where
-    next : (d : D) → Has k d → (j : List ℕ) (rest more : List (List ℕ)) → k.lines d ≡ (head ++ map k.text xs) ++ j ∷ rest → [] ≡ j ∷ more → ⊥
+    next : (d : D) → Has k d → (j : List ℕ) (rest more : List (List ℕ)) → k.texts.lines d ≡ (head ++ map k.text xs) ++ j ∷ rest → [] ≡ j ∷ more → ⊥
     next d h j rest more same first = cc first
 
-    done : (d : D) → Has k d → bytes ≡ flat_map line_bytes (k.lines d) → k.lines d ≡ head ++ map k.text xs → ⊥
-    done d h t same = unfinished
-        (whole-ends k w bytes place s head xs r d h same)
-        (nothing-after bytes (flat_map line_bytes (head ++ map k.text xs)) (drop place bytes) r.lines.text (t ∙ ap (flat_map line_bytes) same))
+    done : (d : D) → IsTextOf k.texts d bytes → k.texts.lines d ≡ head ++ map k.text xs → ⊥
+    done d t same = unfinished
+        (whole-ends k w bytes place s head xs r d t.printable same)
+        (nothing-after bytes (flat_map line_bytes (head ++ map k.text xs)) (drop place bytes) r.lines.text (t.text ∙ ap (flat_map line_bytes) same))

@@ -5,8 +5,7 @@ use Rattle.std.proofs.lemmas.Bool.{and_parts, cases_Bool, false≢true}
 use Rattle.std.proofs.lemmas.Grind.{flat_map-append}
 use Rattle.std.proofs.lemmas.List.{take-append-drop}
 use Rattle.plain_laws.proofs.Lists.{regroup-line}
-use Rattle.calculus.specs.DerivationText.{line_bytes}
-use Rattle.calculus.specs.Judgement.{byte_before, line_step, whole_lines}
+use Rattle.calculus.specs.FirstWrong.{line_bytes, byte_before, line_step, whole_lines}
 use Rattle.text_lines.specs.Lines.{AreRead, IsLineAt}
 use Rattle.text_lines.proofs.LineFeeds.{AreNoFeeds, NoFeed, is_no_feed}
 

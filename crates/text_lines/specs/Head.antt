@@ -2,7 +2,7 @@
 use Rattle.std.specs.Prelude.{◌≡◌, ℕ, List, [], ◌∷◌, ◌++◌, drop, IsTrue, codes, decimal}
 use Rattle.calculus.specs.Syntax.{Problem}
 use Rattle.calculus.specs.DerivationText.{is_limit, setting_text}
-use Rattle.calculus.specs.Judgement.{whole_lines}
+use Rattle.calculus.specs.FirstWrong.{whole_lines}
 use Rattle.calculus.specs.Text.{formula_text}
 use Rattle.text_lines.specs.Lines.{AreRead}
 use Rattle.text_lines.specs.declared.head_line.HeadLine.{HeadLine}

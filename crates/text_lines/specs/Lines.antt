@@ -1,8 +1,7 @@
 -- The lines of a text.
 use Rattle.std.specs.Prelude.{◌≡◌, ℕ, ◌≤◌, List, ◌∷◌, ◌++◌, length, drop}
 use Rattle.std.specs.List.{flat_map}
-use Rattle.calculus.specs.DerivationText.{line_bytes}
-use Rattle.calculus.specs.Judgement.{whole_lines}
+use Rattle.calculus.specs.FirstWrong.{line_bytes, whole_lines}
 
 -- a whole line stands at the place `from`, and `to` is the place after its line feed
 pub record IsLineAt (bytes : List ℕ) (from to : ℕ) (line : List ℕ) : Type 0 where

@@ -2,28 +2,18 @@
 
 ghost use Rattle.std.specs.Prelude.{◌≡◌, ◌≤◌, ◌∷◌, ℕ, List, length, drop, IsNone, IfSome, IfOk, IsTrue, Err};
 ghost use Rattle.calculus.specs.DerivationText.{is_limit};
-ghost use Rattle.calculus.specs.Judgement.{whole_lines};
+ghost use Rattle.calculus.specs.FirstWrong.{whole_lines};
 ghost use Rattle.calculus.specs.Problems.{is_problem};
 ghost use Rattle.text_lines.specs.Head.{IsHeadFault, IsHeadRead, formula_line, limit_line, setting_line};
 ghost use Rattle.text_lines.specs.Lines.{IsLineAt};
 
 use crate::head_line::{HeadFault, HeadLine};
-use crate::lines::line_at;
+use crate::lines::{after_line, line_at};
 use crate::parts::{read_limit, rest_after};
 use cop_base::NoMemory;
 use formula_text::{write_formula, write_setting};
 use logic_rules::Problem;
 use std::alloc::{AllocError, Global};
-
-// The place after a line that begins at a place.
-fn after_line(text: &[u8], from: usize, line: &[u8]) -> Option<usize>
-    requires { from ≤ length text.now }
-    ensures some { IfSome result (λ to. IsLineAt text.now from to line.now) }
-    ensures none { IsNone result → (more : List (List ℕ)) → ¬ (whole_lines (drop from text.now) ≡ line.now ∷ more) }
-{
-    let (found, to) = line_at(text, from)?;
-    if found == line { Some(to) } else { None }
-}
 
 // The limit of a line that begins at a place, and the place after the line.
 fn limit_after(text: &[u8], from: usize) -> Option<(u8, usize)>
@@ -39,7 +29,8 @@ fn limit_after(text: &[u8], from: usize) -> Option<(u8, usize)>
     Some((limit, to))
 }
 
-fn setting_line(alloc: Global, problem: &Problem) -> Result<Vec<u8>, NoMemory>
+/// The second line.
+pub fn setting_line(alloc: Global, problem: &Problem) -> Result<Vec<u8>, NoMemory>
     ensures text { IfOk result (λ v. v.items ≡ setting_line problem.now) }
     ensures well { IsTrue (is_problem problem.now) }
 {

@@ -2,7 +2,7 @@
 
 ghost use Rattle.std.specs.Prelude.{◌≡◌, ◌++◌, OnErr, OnOk};
 ghost use Rattle.std.specs.List.{flat_map};
-ghost use Rattle.calculus.specs.DerivationText.{line_bytes};
+ghost use Rattle.calculus.specs.FirstWrong.{line_bytes};
 ghost use Rattle.formula_text.specs.Extends.{Extends};
 ghost use Rattle.text_lines.specs.Head.{head_of};
 

@@ -10,9 +10,9 @@ mod lines;
 mod parts;
 
 pub use head_line::{HeadFault, HeadLine};
-pub use head_reader::read_head;
+pub use head_reader::{read_head, setting_line};
 pub use head_writer::write_head;
-pub use lines::line_at;
+pub use lines::{after_line, line_at};
 pub use parts::{
     read_front_label, read_front_number, read_limit, read_name_number, read_whole_label,
     read_whole_number, rest_after,

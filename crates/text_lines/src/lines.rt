@@ -1,7 +1,7 @@
 //! The lines of a text.
 
-ghost use Rattle.std.specs.Prelude.{◌≡◌, ◌+◌, ◌<◌, ◌≤◌, ◌∷◌, [], length, take, drop, IsNone, IfSome};
-ghost use Rattle.calculus.specs.Judgement.{whole_lines};
+ghost use Rattle.std.specs.Prelude.{◌≡◌, ◌+◌, ◌<◌, ◌≤◌, ◌∷◌, [], ℕ, List, length, take, drop, IsNone, IfSome};
+ghost use Rattle.calculus.specs.FirstWrong.{whole_lines};
 ghost use Rattle.text_lines.specs.Lines.{IsLineAt};
 
 // The place of the first line feed.
@@ -28,4 +28,14 @@ pub fn line_at(text: &[u8], from: usize) -> Option<(&[u8], usize)>
     let rest = &text[from..];
     let i = line_feed(rest)?;
     Some((&rest[..i], from + i + 1))
+}
+
+/// The place after a line that begins at a place.
+pub fn after_line(text: &[u8], from: usize, line: &[u8]) -> Option<usize>
+    requires { from ≤ length text.now }
+    ensures some { IfSome result (λ to. IsLineAt text.now from to line.now) }
+    ensures none { IsNone result → (more : List (List ℕ)) → ¬ (whole_lines (drop from text.now) ≡ line.now ∷ more) }
+{
+    let (found, to) = line_at(text, from)?;
+    if found == line { Some(to) } else { None }
 }

@@ -1,6 +1,6 @@
 use Rattle.std.proofs.Common.{ap, subst, Err}
 use Rattle.text_lines.specs.Head as head
-use Rattle.derivation_text.proofs.NumberedHeads.{fault-head_in, told-head_in}
+use Rattle.derivation_text.proofs.HeadFaults.{fault-head_in, told-head_in}
 use Rattle.derivation_text.proofs.head_reader.read_head.Goals as goal
 
 pub returns-in-Ok-clause-ok : goal.returns-in-Ok-clause-ok

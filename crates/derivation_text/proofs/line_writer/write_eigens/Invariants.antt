@@ -1,5 +1,5 @@
 use Rattle.std.proofs.Common.{◌≡◌, ◌++◌, map, drop, flat_map}
-use Rattle.calculus.specs.DerivationText.{line_bytes}
+use Rattle.calculus.specs.FirstWrong.{line_bytes}
 use Rattle.derivation_text.specs.NumbersView.{the_numbered_eigen}
 use Rattle.derivation_text.specs.Writing.{eigen_line_at}
 use Rattle.derivation_text.proofs.line_writer.write_eigens.Given as goal

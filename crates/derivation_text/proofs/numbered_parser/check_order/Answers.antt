@@ -5,7 +5,7 @@ use Rattle.derivation_text.proofs.StatedLaws.{stated-printable}
 use Rattle.derivation_text.proofs.numbered_parser.check_order.Goals as goal
 
 pub text_of_stated-requires : goal.text_of_stated-requires
-text_of_stated-requires c = stated-printable c.args.problem.now c.args.d.now c.requires.form.written
+text_of_stated-requires c = stated-printable c.args.problem.now c.args.d.now c.requires.form.printable
 
 pub returns-in-None-clause-numbers : goal.returns-in-None-clause-numbers
 returns-in-None-clause-numbers c = in-order_by_text c.args.problem.now c.requires.well c.args.d.now c.args.bytes.now c.in_ok-text.text.items c.requires.form c.in_ok-text.ensures (c.in-None.ensures.none refl ∙ c.as_slice.ensures.value)

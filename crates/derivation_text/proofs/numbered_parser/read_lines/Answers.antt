@@ -1,7 +1,7 @@
 use Rattle.std.proofs.Common.{refl, ap, Err, arith}
 use Rattle.calculus.specs.declared.version.Version.TheVariants.{Two}
 use Rattle.derivation_text.specs.NumberedBody.{the_numbered_line}
-use Rattle.derivation_text.proofs.NumberedHeads.{told-in}
+use Rattle.derivation_text.proofs.HeadFaults.{told-in}
 use Rattle.derivation_text.proofs.NumberedSteps.{next-listed, put-fault_at_end, put-fault_at_line, put-few, put-first, put-step, put-text}
 use Rattle.derivation_text.proofs.numbered_parser.read_lines.Goals as goal
 

@@ -1,9 +1,10 @@
 use Rattle.std.proofs.Common.{refl, ap, Err, arith}
+use Rattle.calculus.specs.declared.version.Version.TheVariants.{One}
 use Rattle.calculus.specs.Versions.{stated}
 use Rattle.derivation_text.specs.BodyView.{the_body_line}
 use Rattle.derivation_text.proofs.BodySteps.{few-lines}
 use Rattle.derivation_text.proofs.Endings.{body-fault_at_end, body-fault_at_line}
-use Rattle.derivation_text.proofs.HeadFaults.{told}
+use Rattle.derivation_text.proofs.HeadFaults.{told-in}
 use Rattle.derivation_text.proofs.NumberedSteps.{entered-first, entered-step, entered-text}
 use Rattle.derivation_text.proofs.parser.read_lines.Goals as goal
 
@@ -15,7 +16,7 @@ overflow_add-result c = let f = few-lines c.args.problem.now c.args.bytes.now c.
 
 pub returns-in-Err-None-clause-fault : goal.returns-in-Err-None-clause-fault
 returns-in-Err-None-clause-fault c = λ line why e.
-    told c.args.problem.now c.args.bytes.now _ line _ why e
+    told-in One c.args.problem.now c.args.bytes.now _ line _ why e
     (body-fault_at_line c.args.problem.now c.requires.well c.args.bytes.now c.loop-text.place c.in-Some.next c.loop-text.stage (stated c.loop-text.d) c.in-Some.text.now c.loop-text.count _ c.loop-text.invariant.read c.loop-text.invariant.counted c.in-Some.ensures.some (c.in-Err-None.ensures.none (ap (λ x. Err x) c.in-Err-None.field-0-is)) c.cause_at_line.ensures)
 
 pub overflow_add-count : goal.overflow_add-count
@@ -37,5 +38,5 @@ returns-then-has_ended-clause-numbers c = c.loop-text.invariant.numbers
 
 pub returns-else-has_ended-clause-fault : goal.returns-else-has_ended-clause-fault
 returns-else-has_ended-clause-fault c = λ line why e.
-    told c.args.problem.now c.args.bytes.now _ line _ why e
+    told-in One c.args.problem.now c.args.bytes.now _ line _ why e
     (body-fault_at_end c.args.problem.now c.requires.well c.args.bytes.now c.loop-text.place c.loop-text.stage (stated c.loop-text.d) c.loop-text.count _ c.loop-text.invariant.read c.loop-text.invariant.counted (c.in_default.ensures.none refl) (c.has_ended.ensures.no c.if-has_ended.false) c.cause_at_end.ensures)

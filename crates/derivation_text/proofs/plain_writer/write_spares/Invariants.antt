@@ -1,6 +1,7 @@
 use Rattle.std.proofs.Common.{◌≡◌, ◌++◌, map, drop}
 use Rattle.std.specs.List.{flat_map}
-use Rattle.calculus.specs.DerivationText.{spare_line, line_bytes}
+use Rattle.calculus.specs.DerivationText.{spare_line}
+use Rattle.calculus.specs.FirstWrong.{line_bytes}
 use Rattle.sequent_calc.specs.NamesView.{the_spare}
 use Rattle.derivation_text.proofs.plain_writer.write_spares.Given as goal
 

@@ -1,5 +1,5 @@
 use Rattle.std.proofs.Common.{◌≡◌, ◌++◌, suc, drop, flat_map}
-use Rattle.calculus.specs.DerivationText.{line_bytes}
+use Rattle.calculus.specs.FirstWrong.{line_bytes}
 use Rattle.calculus.specs.Versions.{label_line, lines_from}
 use Rattle.derivation_text.proofs.table_writer.write_labels.Given as goal
 

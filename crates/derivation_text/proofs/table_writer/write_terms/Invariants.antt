@@ -1,5 +1,5 @@
 use Rattle.std.proofs.Common.{◌≡◌, ◌++◌, suc, drop, flat_map}
-use Rattle.calculus.specs.DerivationText.{line_bytes}
+use Rattle.calculus.specs.FirstWrong.{line_bytes}
 use Rattle.calculus.specs.Versions.{lines_from, term_line}
 use Rattle.derivation_text.proofs.table_writer.write_terms.Given as goal
 

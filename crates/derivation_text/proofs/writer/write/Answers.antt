@@ -1,5 +1,5 @@
 use Rattle.std.proofs.Common.{◌≡◌, length, ap, arith, ◌∙◌, flat_map}
-use Rattle.calculus.specs.DerivationText.{line_bytes}
+use Rattle.calculus.specs.FirstWrong.{line_bytes}
 use Rattle.text_lines.specs.Head.{head_of}
 use Rattle.derivation_text.proofs.FormulaLines.{formula-unique_in}
 use Rattle.derivation_text.proofs.FaultLaws.{one-text}

@@ -1,6 +1,6 @@
 use Rattle.std.proofs.Common.{◌++◌, [], ◌∷◌, length, map, codes, flat_map, ◌∙◌, ap}
 use Rattle.std.specs.List.{list_all}
-use Rattle.calculus.specs.DerivationText.{line_bytes}
+use Rattle.calculus.specs.FirstWrong.{line_bytes}
 use Rattle.derivation_text.specs.Listed.{are_listed, has_home_among, may_have_home_among}
 use Rattle.derivation_text.specs.Writing.{eigen_line_at, label_lines_in, spare_line_at, step_line_at, term_lines_in}
 use Rattle.derivation_text.proofs.WritingLaws.{body-joined, body-lines}

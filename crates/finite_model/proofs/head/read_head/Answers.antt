@@ -5,7 +5,8 @@ use Rattle.std.specs.List.{list_all}
 use Rattle.calculus.specs.StructureText.{fits_table}
 use Rattle.logic_rules.proofs.ProblemFacts.{kept}
 use Rattle.finite_model.proofs.HeadFaults.{elements-fault, setting-fault, version-fault, worlds-fault}
-use Rattle.finite_model.proofs.HeadReading.{no-same, none-read, read-four, read-one, read-three, read-two, told, too-large}
+use Rattle.text_lines.proofs.WholeLines.{none-read}
+use Rattle.finite_model.proofs.HeadReading.{no-same, read-four, read-one, read-three, read-two, told, too-large}
 use Rattle.finite_model.proofs.head.read_head.Goals as goal
 
 pub returns-in_default-clause-fault : goal.returns-in_default-clause-fault

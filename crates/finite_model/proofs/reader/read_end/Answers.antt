@@ -1,6 +1,6 @@
 use Rattle.std.proofs.Common.{refl, subst, arith}
 use Rattle.finite_model.specs.StructureView.{the_lists}
-use Rattle.finite_model.specs.Reading.{AreRead}
+use Rattle.text_lines.specs.Lines.{AreRead}
 use Rattle.finite_model.specs.Slots.{lines_of}
 use Rattle.finite_model.proofs.EntryReading.{end-read, lists-count, more-behind, no-end_there}
 use Rattle.finite_model.proofs.HeadReading.{told}

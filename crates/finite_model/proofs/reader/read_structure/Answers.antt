@@ -11,7 +11,7 @@ pub returns-in_err-structure-clause-one : goal.returns-in_err-structure-clause-o
 returns-in_err-structure-clause-one c = structure_judgement-unique c.args.problem.now c.args.bytes.now
 
 pub check_conditions-requires : goal.check_conditions-requires
-check_conditions-requires c = c.in_ok-structure.ensures.text.stated
+check_conditions-requires c = c.in_ok-structure.ensures.text.printable
 
 pub returns-in_err-check_conditions-clause-bad : goal.returns-in_err-check_conditions-clause-bad
 returns-in_err-check_conditions-clause-bad c = λ line why e. broken-judged c.args.problem.now c.args.bytes.now _ line why c.in_ok-structure.ensures.text (c.in_err-check_conditions.ensures.bad line why (error-passed c.from_residual-in_err-check_conditions.result c.in_err-check_conditions.field-0.0 _ c.from_residual-in_err-check_conditions.ensures.1 e))

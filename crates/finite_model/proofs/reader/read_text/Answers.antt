@@ -1,6 +1,7 @@
 use Rattle.std.proofs.Common.{length, map, sym, ◌∙◌, ap, subst}
 use Rattle.logic_rules.proofs.ProblemFacts.{kept}
-use Rattle.finite_model.specs.Reading.{AreEntriesRead, AreRead, the_slot}
+use Rattle.text_lines.specs.Lines.{AreRead}
+use Rattle.finite_model.specs.Reading.{AreEntriesRead, the_slot}
 use Rattle.finite_model.specs.Slots.{lines_of, slots, structure_of, table_sizes}
 use Rattle.finite_model.specs.StructureView.{the_lists}
 use Rattle.finite_model.proofs.ReadingOutcomes.{text-read}

@@ -1,5 +1,6 @@
 use Rattle.std.proofs.Common.{◌+◌, refl, sym, subst, arith, ap, Err, false}
-use Rattle.calculus.specs.TableauText.{IsWrongTableauText, tableau_rejected}
+use Rattle.calculus.specs.FirstWrong.{IsFirstWrong}
+use Rattle.calculus.specs.TableauText.{moves_texts, tableau_causes}
 use Rattle.logic_rules.proofs.ProblemFacts.{kept}
 use Rattle.tableau_text.proofs.LineLaws.{IsReadBy, read-first}
 use Rattle.tableau_text.proofs.ReadLaws.{counted-within, fault-after_by, fault-end_by, fault-line_by, step-by, text-by, told-line, told-wrong}
@@ -49,5 +50,5 @@ overflow_add-result-else-has_ended c = let f = counted-within c.args.problem.now
 pub returns-else-has_ended-clause-fault : goal.returns-else-has_ended-clause-fault
 returns-else-has_ended-clause-fault c = λ line cause e.
     told-wrong c.args.problem.now c.args.bytes.now _ line _ cause e
-    (subst (λ f. IsWrongTableauText c.args.problem.now c.args.bytes.now (tableau_rejected (c.loop-line.count + 1) f)) (sym c.fault_behind.ensures)
+    (subst (λ f. IsFirstWrong (moves_texts c.args.problem.now) tableau_causes c.args.bytes.now (c.loop-line.count + 1) f) (sym c.fault_behind.ensures)
     (fault-end_by c.args.problem.now c.requires.well c.args.bytes.now c.args.limit c.loop-line.table c.args.start.now c.loop-line.moves.items c.loop-line.place c.loop-line.ended c.loop-line.count c.loop-line.invariant (c.in_default.ensures.none refl) (c.has_ended.ensures.no c.if-has_ended.false) c.loop-line.invariant.read.lines.within))

@@ -1,5 +1,5 @@
 use Rattle.std.proofs.Common.{◌≡◌, ◌++◌, map, drop, flat_map}
-use Rattle.calculus.specs.DerivationText.{line_bytes}
+use Rattle.calculus.specs.FirstWrong.{line_bytes}
 use Rattle.calculus.specs.TableauText.{move_line}
 use Rattle.tableau_text.specs.MovesView.{the_move}
 use Rattle.tableau_text.proofs.writer.write_moves.Given as goal

@@ -1,6 +1,6 @@
 use Rattle.std.proofs.Common.{◌≡◌, suc, ◌∙◌, ◌+◌, ◌<◌, ◌∷◌, ℕ, List, [], length, take, drop, get_or, ap, subst, add-one, drop-cons, arith}
 use Rattle.std.proofs.Math.Seq.{take-length}
-use Rattle.calculus.specs.Judgement.{whole_lines}
+use Rattle.calculus.specs.FirstWrong.{whole_lines}
 use Rattle.text_lines.proofs.LineFeeds.{NoFeed}
 use Rattle.text_lines.proofs.WholeLines.{at-feed, no-line}
 use Rattle.text_lines.proofs.lines.line_feed.Goals as goal
