@@ -1,5 +1,5 @@
 -- Rows of digits are compared digit by digit, which is tuple by tuple.
-use Rattle.std.proofs.Common.{◌≡◌, ℕ, zero, suc, ◌+◌, ◌*◌, ◌^◌, ◌<◌, List, [], ◌∷◌, ◌++◌, length, map, get_or, Bool, true, false, not, ◌&&◌, ◌||◌, ◌==◌, IsTrue, nat_lt, Option, Some, None, refl, sym, ◌∙◌, ap, subst, arith, slice_get, Bor, option_copied, eqb-true, ltb-true}
+use Rattle.std.proofs.Common.{◌≡◌, ℕ, zero, suc, ◌+◌, ◌*◌, ◌^◌, ◌<◌, List, [], ◌∷◌, ◌++◌, length, map, get_or, Bool, false, not, ◌&&◌, ◌||◌, ◌==◌, IsTrue, nat_lt, Option, Some, None, refl, sym, ◌∙◌, ap, subst, arith, slice_get, Bor, option_copied, eqb-true, ltb-true}
 use Rattle.std.specs.List.{list_all, flat_map}
 use Rattle.std.specs.Option.{option_map, option_map_or}
 use Rattle.std.specs.Prelude.{Vec}
