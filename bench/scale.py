@@ -220,7 +220,7 @@ FAMILIES = [
     Family("structure-terms", "a closed term of n symbols at n choices of elements",
            1024, ["model", *JUDGED], closed_terms, "true at the root"),
     Family("structure-room", "n symbols, and a structure of 64 worlds that is wrong at line 5",
-           2000, ["model", *JUDGED, S4], many_symbols, "rejected structure at line 5: line"),
+           2000, ["model", *JUDGED, S4], many_symbols, "rejected structure at line 5: line", is_known=False),
     Family("tableau-values", "n pairs of quantifiers before both sides, the worth being also what is written",
            1, ["tableau", "m.p"], pairs_of_quantifiers, "leancop tableau", is_known=False, is_written=True),
     Family("second-file", "a second file of n thousand bytes",

@@ -20,7 +20,7 @@ use Rattle.finite_model.specs.Conditions.{IsFirstBroken, holds_at, one_world_con
 use Rattle.finite_model.specs.declared.asked.Asked.TheVariants.{SameDomain, KeptDomain}
 use Rattle.finite_model.specs.Slots.{function_count}
 use Rattle.finite_model.proofs.ConditionLaws.{broken-first, unbroken-on}
-use Rattle.finite_model.proofs.PushLaws.{rest-at}
+use Rattle.finite_model.proofs.NextSlots.{rest-at}
 
 -- ---- one list after the other
 

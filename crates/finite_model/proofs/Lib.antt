@@ -1,8 +1,8 @@
 -- How this crate is proved.
 --
 -- Carried by `SlotFaults` and `EntryLaws`: behind the head a text is a list of entries, one for each slot, which the problem and the sizes
--- decide; entries state a structure with their lines, and each structure that can be stated has a text of entries. So one loop reads all
--- kinds of lines, and each fault is that no entry of the next slot stands there.
+-- decide; entries state a structure with their lines, and each structure that can be stated has a text of entries. So one function reads
+-- all kinds of lines, and each fault is that no entry of the next slot stands there.
 --
 -- - *Truth.* `SeekLaws` and `TruthArms` lead from looking for a value, up to the first item that has it, to truth by steps (`told_at`);
 --   `FormulaArms` says what a formula of the program is at each form. `Outcomes.root-outcome` gives truth, cost and steps at the root,
@@ -12,8 +12,9 @@
 --   once. `FunctionLaws` (`kept-on`, `kept-false`, `kept-end`) goes by these places from tuple to tuple, whether a function keeps a
 --   domain. `PersistenceLaws.kept-rows`: rows are compared digit by digit, by `all-places`.
 -- - *Reading.* By `FirstWrong.faulty` of `text_lines` bytes are no text where the lines that are read are those of some structure, and
---   what follows is the next line of none. `HeadFaults` and `SlotFaults` (`slot-fault`, `end-fault`, `after-fault`) say it of each line; `EntryReading` goes
---   from slot to slot, `NumberLaws` from number to number, `MakingLaws` from symbol to symbol, `SizeLaws` from argument to argument.
+--   what follows is the next line of none. `HeadFaults` and `SlotFaults` (`slot-fault`, `end-fault`, `after-fault`) say it of each line;
+--   `EntryReading` goes from slot to slot, by those that are left (`AreLeft`), `NumberLaws` from number to number, `MakingLaws` from symbol
+--   to symbol, `SizeLaws` from argument to argument.
 -- - *Conditions.* `WorldChecks` and `CheckLaws` go from world to world and from symbol to symbol over the first condition that is broken
 --   (`first_broken`); `asked-first` to `asked-none` put the five groups together, by what the code knows of the setting, the symbols and
 --   the lines. `ReadingOutcomes` says that what is answered is the one judgement.
@@ -30,7 +31,7 @@ pub mod RiseLaws
 pub mod FormLaws
 pub mod SizeLaws
 pub mod SlotLaws
-pub mod PushLaws
+pub mod NextSlots
 pub mod EntryLaws
 pub mod Feeds
 pub mod TextFaults

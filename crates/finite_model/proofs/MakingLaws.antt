@@ -12,7 +12,7 @@ use Rattle.finite_model.specs.declared.structure.Meaning.{Meaning}
 use Rattle.finite_model.specs.declared.structure.Meaning.TheVariants.{Values, Truths}
 use Rattle.finite_model.specs.Slots.{first_of, function_count, meanings_of, structure_of}
 use Rattle.finite_model.specs.StructureView.{is_one, the_lists, the_meaning, the_rows, the_structure}
-use Rattle.finite_model.proofs.PushLaws.{rest-at}
+use Rattle.finite_model.proofs.NextSlots.{rest-at}
 
 -- ---- from the front
 

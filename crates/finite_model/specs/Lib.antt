@@ -8,5 +8,6 @@ pub mod Judging
 pub mod Items
 pub mod Slots
 pub mod Reading
+pub mod EntriesLeft
 -- the conditions
 pub mod Conditions

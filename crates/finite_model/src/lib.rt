@@ -4,6 +4,7 @@
 
 mod asked;
 mod conditions;
+mod entries;
 mod fault;
 mod functions;
 mod head;

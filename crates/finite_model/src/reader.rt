@@ -1,85 +1,26 @@
 //! Reading structures.
 
-ghost use Rattle.std.specs.Prelude.{◌≡◌, ◌≤◌, ◌+◌, Err, IfOk, IsTrue, OnOk, length, map, ℕ};
+ghost use Rattle.std.specs.Prelude.{◌≡◌, ◌≤◌, ◌+◌, Err, IfOk, IsTrue, OnOk, length, ℕ};
 ghost use Rattle.std.specs.List.{list_all};
 ghost use Rattle.calculus.specs.Problems.{symbol_fits};
 ghost use Rattle.calculus.specs.StructureText.{IsStructureJudgement, IsStructureText, StructureVerdict, bad_structure, truth_verdict};
 ghost use Rattle.calculus.specs.Structures.{is_structure, is_true};
 ghost use Rattle.calculus.specs.declared.fault.StructureCause.{StructureCause};
-ghost use Rattle.calculus.specs.declared.fault.StructureCause.TheVariants as cause;
-ghost use Rattle.finite_model.specs.Reading.{AreEntriesRead, IsFaultOf, IsHeadRead, IsSlotAt, NoSlotAt, the_slot};
-ghost use Rattle.finite_model.specs.Slots.{lines_of, slots};
+ghost use Rattle.finite_model.specs.Reading.{AreEntriesRead, IsFaultOf, IsHeadRead};
+ghost use Rattle.finite_model.specs.Slots.{lines_of};
 ghost use Rattle.finite_model.specs.StructureView.{the_lists};
 ghost use Rattle.text_lines.specs.Lines.{AreRead};
 
 use crate::conditions::check_conditions;
+use crate::entries::read_entries;
 use crate::fault::StructureRead;
 use crate::head::{Head, read_head};
 use crate::making::structure_of;
-use crate::slot::Slot;
-use crate::slots::slots_of;
 use crate::structure::Structure;
 use calculus::fault::StructureCause;
-use formula_text::TextRead;
 use logic_rules::Problem;
 use std::alloc::{AllocFailed, Global};
-use text_lines::{after_line, line_at};
-
-// The entry of a slot whose line begins at a place, and the place after the line, which has this number.
-fn read_slot(
-    alloc: Global,
-    bytes: &[u8],
-    from: usize,
-    slot: &Slot,
-    number: u64,
-) -> Result<(Vec<u8>, usize), StructureRead>
-    requires { from ≤ length bytes.now }
-    ensures ok { IfOk result (λ r. IsSlotAt bytes.now from r.1 (the_slot slot.now) r.0.items) }
-    ensures line { (line : ℕ) (why : StructureCause) → result ≡ Err (StructureRead.Bad line why) → line ≡ number }
-    ensures cause { (line : ℕ) (why : StructureCause) → result ≡ Err (StructureRead.Bad line why) → why ≡ cause.Line }
-    ensures none { (line : ℕ) (why : StructureCause) → result ≡ Err (StructureRead.Bad line why)
-        → NoSlotAt bytes.now from (the_slot slot.now) }
-{
-    let Some((line, end)) = line_at(bytes, from) else {
-        return Err(StructureRead::Bad {
-            line: number,
-            cause: StructureCause::Line,
-        });
-    };
-    match slot.read(alloc, line) {
-        Ok(entry) => Ok((entry, end)),
-        Err(TextRead::None) => Err(StructureRead::Bad {
-            line: number,
-            cause: StructureCause::Line,
-        }),
-        Err(TextRead::NoMemory) => Err(StructureRead::NoMemory),
-    }
-}
-
-// The entries of the lines behind the head, the first of which is line 5, and the place after them.
-fn read_entries(
-    alloc: Global,
-    problem: &Problem,
-    bytes: &[u8],
-    head: &Head,
-    expected: &[Slot],
-) -> Result<(Vec<Vec<u8>>, usize), StructureRead>
-    requires names { IsTrue (list_all symbol_fits problem.now.symbols) }
-    requires head { IsHeadRead problem.now bytes.now head.now }
-    requires expected { map the_slot expected.now ≡ slots problem.now.symbols head.now.worlds head.now.elements }
-    ensures ok { IfOk result (λ r. AreEntriesRead problem.now bytes.now head.now.worlds head.now.elements (the_lists r.0.items) r.1) }
-    ensures fault { (line : ℕ) (why : StructureCause) → result ≡ Err (StructureRead.Bad line why)
-        → IsFaultOf problem.now bytes.now line why }
-{
-    let mut entries = Vec::new(alloc);
-    let mut place = head.end;
-    for slot in expected {
-        let (entry, end) = read_slot(alloc, bytes, place, slot, entries.len() as u64 + 5)?;
-        entries.push(entry)?;
-        place = end;
-    }
-    Ok((entries, place))
-}
+use text_lines::after_line;
 
 // The line `end`, behind which nothing may stand.
 fn read_end(
@@ -121,10 +62,15 @@ fn read_text(alloc: Global, problem: &Problem, bytes: &[u8]) -> Result<Structure
 {
     let symbols = problem.symbols();
     let head = read_head(alloc, problem, bytes)?;
-    let slots = slots_of(alloc, symbols, &head)?;
-    let (entries, end) = read_entries(alloc, problem, bytes, &head, slots.as_slice())?;
-    read_end(problem, bytes, &head, entries.as_slice(), end)?;
-    let structure = structure_of(alloc, symbols, &head, entries)?;
+    let entries = read_entries(alloc, problem, bytes, &head)?;
+    read_end(
+        problem,
+        bytes,
+        &head,
+        entries.lists.as_slice(),
+        entries.place,
+    )?;
+    let structure = structure_of(alloc, symbols, &head, entries.lists)?;
     Ok(structure)
 }
 
