@@ -97,6 +97,13 @@ def wrong_values(n: int) -> Texts:
     return tableau(formula, ["start r {}"] + ["extend 0 l {$$s%d%s}" % (k + 1, ",a" * (n - 1)) for k in range(n)])
 
 
+def accepted_values(n: int) -> Texts:
+    units = [*[f"(p{k + 1} => p{k})" for k in range(98)], "p98"]
+    formula = "(%s%s => p0)" % ("".join(f"![X{k + 1}]:" for k in range(n)), balanced("&", units))
+    values = [",".join([f"$$s{k + 1}"] * n) for k in range(99)]
+    return tableau(formula, ["start r {}"] + ["extend %d l%s {%s}" % (k < 98, sides_of(k, 99), values[k]) for k in range(99)])
+
+
 def long_strings(n: int) -> Texts:
     values = "{%s}" % ",".join([label(n)] * n)
     return tableau(f"({'#box:' * n}p => {'#dia:' * n}p)", [f"start r {values}", f"extend 0 l {values}"], "s4 constant")
@@ -194,9 +201,11 @@ FAMILIES = [
     Family("tableau-lines-convert", "the same, converted",
            1000, ["convert", *JUDGED], wrong_lines, "rejected at line 6: no connection"),
     Family("ways-values", "n quantifiers, n lines of n values, the second of which is wrong",
-           30, ["tcheck", *JUDGED], wrong_values, "rejected at line 6: no connection"),
+           30, ["tcheck", *JUDGED], wrong_values, "rejected at line 6: no connection", is_known=False),
+    Family("ways-accepted", "n quantifiers, 99 lines of n values",
+           30, ["tcheck", *JUDGED], accepted_values, ACCEPTED, is_known=False),
     Family("ways-strings", "n boxes on both sides with strings of n characters",
-           30, ["tcheck", *JUDGED, S4], long_strings, ACCEPTED),
+           30, ["tcheck", *JUDGED, S4], long_strings, ACCEPTED, is_known=False),
     Family("table-not-in-order", "a label that is not used, and one of n characters that is used n times",
            1000, ["check", *JUDGED, S4], not_in_order, "rejected at line 6: table", is_known=False),
     Family("table-label", "a label of n characters that is used n times",

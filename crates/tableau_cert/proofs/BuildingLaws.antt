@@ -1,11 +1,11 @@
 -- Closings that are taken from a stack.
 use Rattle.std.proofs.Common.{◌≡◌, ℕ, zero, suc, ◌+◌, ◌-◌, ◌≤◌, List, [], ◌∷◌, ◌++◌, length, map, reverse, take, drop, Ok, refl, sym, ◌∙◌, ap, arith}
-use Rattle.std.proofs.lemmas.List.{length-map, length-reverse, map-append, reverse-append, take_all}
+use Rattle.std.proofs.lemmas.List.{get_or_past, length-map, length-reverse, map-append, reverse-append, take_all}
 use Rattle.std.proofs.lemmas.Simd.{map-map}
 use Rattle.plain_laws.proofs.Lists.{map-drop, map-take}
 use Rattle.calculus.specs.Lists.{closings_tree}
 use Rattle.calculus.specs.Tableaux as tree
-use Rattle.formula_core.specs.GroundLists.{GroundList}
+use Rattle.formula_core.specs.GroundLists.{GroundList, list_at, no_list, of_terms}
 use Rattle.tableau_core.proofs.Numbered.ClosingLaws.{closings-in}
 use Rattle.tableau_core.specs.Numbered.Closings as numbered
 use Rattle.tableau_core.specs.Numbered.ClosingView.{closing_in, closings_in, the_closing}
@@ -16,6 +16,9 @@ use Rattle.tableau_core.specs.declared.closing.Closing.TheVariants.{Extend}
 use Rattle.tableau_core.specs.declared.instance.ClauseInstance.{ClauseInstance}
 use Rattle.tableau_cert.specs.Building.{built_on, put_closer, put_extension, the_stack}
 use Rattle.tableau_cert.specs.Resolving.{Closer}
+
+pub no-list : (ls : List GroundList) → length ls ≤ no_list → list_at ls no_list ≡ of_terms []
+no-list ls h = get_or_past ls no_list (of_terms []) h
 
 drop-head : {X : Type 0} (R : List X) (k : ℕ) (c : X) (xs : List X) → drop k R ≡ c ∷ xs → (take (suc k) R ≡ take k R ++ c ∷ []) × (drop (suc k) R ≡ xs)
 drop-head [] zero c xs e = cc

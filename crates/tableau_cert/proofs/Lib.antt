@@ -4,9 +4,11 @@
 -- when its goals are open. The open goals and the path name lists that stay the same then (`AreNormalGoals`; `NormalLaws` has it when a
 -- goal is closed and when the table grows). For building the tableau of accepted moves all instances are found again (`resolve`).
 --
--- - *Instances.* `gather` walks through the formula with its stack on the heap. Where a part stands is told by numbers of the table
---   (`Spot`), which stay the same when it grows (`IsNormalSpot`; `SteppingLaws` has this of spots, tasks and literals, and what is put
---   together when a label or the values go on by one step). A part is entered past its modal step (`IsModal`, `IsEntered`; `EnteringLaws`)
+-- - *Instances.* `gather` walks through the formula depth first, with its stack on the heap. So what stands on the way to a part (`Way`:
+--   characters, values, terms put for variables) is one stack too, to whose points (`WayPoint`) the parts that wait cut it back.
+--   `open_tasks` and `AreWaiting` cut from part to part, so that a way that has gone on matters to the first of them alone
+--   (`open-longer`, `waiting-longer`). A way stays the same when the table grows (`IsNormalWay`); `SteppingLaws` has this of ways and
+--   literals, and the steps that make a way longer (`IsWayMade`). A part is entered past its modal step (`IsModal`, `IsEntered`; `EnteringLaws`)
 --   and opened (`IsOpened`; `OpeningLaws`). Both speak of `gathered`, what a part adds to what is gathered so far: `GatheringLaws` has it
 --   case by case, with `steps-joined` for a modal step and what is behind it, and `WalkingLaws` the loop (`begins`, `walk-goes_on`,
 --   `walk-stopped`, `ends-used`). `ResolvingLaws` leads from the summary of the walk to `literals_of`, `modal_steps` and
@@ -25,6 +27,7 @@
 -- - *Calls.* `CallLaws.exact` says of a problem which bytes are texts of closed tableaux (`AreTextsExact`): accepted ones are, a text has
 --   one tableau and limit, and a closed tableau with numbers of 32 bits one text with a limit from 1 to 200.
 
+mod AllLaws
 mod GatheringLaws
 mod NormalLaws
 mod JudgingLaws

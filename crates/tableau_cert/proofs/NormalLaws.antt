@@ -1,43 +1,19 @@
 -- Goals and those above them when the table grows.
-use Rattle.std.proofs.Common.{◌≡◌, ℕ, zero, suc, List, [], ◌∷◌, ◌++◌, length, map, reverse, take, drop, Some, None, Option, Result, Ok, Err, refl, sym, ◌∙◌, ap, subst, remove, if◌then◌else◌, nat_lt}
+use Rattle.std.proofs.Common.{◌≡◌, ℕ, List, [], ◌∷◌, ◌++◌, map, reverse, take, Some, None, Option, refl, sym, ◌∙◌, ap, subst}
 use Rattle.std.specs.List.{AllByRecursion}
-use Rattle.std.proofs.lemmas.List.{reverse-append}
 use Rattle.calculus.specs.declared.fault.TableauFault.{TableauFault}
-use Rattle.calculus.specs.Syntax.{Problem}
-use Rattle.calculus.specs.TableauText.{Move, OpenGoal}
 use Rattle.formula_core.specs.GroundLists.{GroundList, IsGrown}
-use Rattle.tableau_core.specs.Numbered.LiteralView.{the_literal}
 use Rattle.tableau_core.specs.declared.literal.GroundLiteral as numbered
+use Rattle.tableau_cert.proofs.AllLaws.{all-joined, all-reversed, all-taken}
 use Rattle.tableau_cert.proofs.SteppingLaws.{literal-grown, literals-grown, literals-normal-grown}
 use Rattle.tableau_cert.specs.Gathering.{AreNormalLiterals, IsNormalLiteral}
-use Rattle.tableau_cert.specs.Judging.{AreNormalGoals, IsNext, IsNormalGoal, Takes, closed_by, goal_of, the_open}
+use Rattle.tableau_cert.specs.Judging.{AreNormalGoals, IsNormalGoal, Takes, closed_by, goal_of, the_open}
 use Rattle.tableau_cert.specs.Resolving.{Closer}
 use Rattle.tableau_cert.specs.declared.judging.OpenGoal as program
 
 -- ---- lists of which something holds throughout
 
 module _ {X : Type 0} (P : X → Type 0) where
-  pub all-joined : (xs ys : List X) → AllByRecursion P xs → AllByRecursion P ys → AllByRecursion P (xs ++ ys)
-  all-joined [] ys h n = n
-  all-joined (x ∷ xs) ys h n = (h.0, all-joined xs ys h.1 n)
-
-  pub all-taken : (k : ℕ) (xs : List X) → AllByRecursion P xs → AllByRecursion P (take k xs)
-  all-taken zero xs h = tt
-  all-taken (suc k) [] h = tt
-  all-taken (suc k) (x ∷ xs) h = (h.0, all-taken k xs h.1)
-
-  all-dropped : (k : ℕ) (xs : List X) → AllByRecursion P xs → AllByRecursion P (drop k xs)
-  all-dropped zero xs h = h
-  all-dropped (suc k) [] h = tt
-  all-dropped (suc k) (x ∷ xs) h = all-dropped k xs h.1
-
-  pub all-removed : (k : ℕ) (xs : List X) → AllByRecursion P xs → AllByRecursion P (remove xs k)
-  all-removed k xs h = all-joined (take k xs) (drop (suc k) xs) (all-taken k xs h) (all-dropped (suc k) xs h)
-
-  pub all-reversed : (xs : List X) → AllByRecursion P xs → AllByRecursion P (reverse xs)
-  all-reversed [] h = tt
-  all-reversed (x ∷ xs) h = subst (AllByRecursion P) (sym (reverse-append (x ∷ []) xs)) (all-joined (reverse xs) (x ∷ []) (all-reversed xs h.1) (h.0, tt))
-
   all-but_last : (xs : List X) (x : X) → AllByRecursion P (xs ++ x ∷ []) → P x × AllByRecursion P xs
   all-but_last [] x h = (h.0, tt)
   all-but_last (y ∷ ys) x h = let r = all-but_last ys x h.1 in (r.0, (h.0, r.1))

@@ -1,5 +1,5 @@
 -- What a walk through an instance gathers.
-use Rattle.std.specs.Prelude.{◌≡◌, ◌&&◌, ◌+◌, ◌<◌, ℕ, Bool, true, List, [], ◌∷◌, ◌++◌, map, Option, Some, None}
+use Rattle.std.specs.Prelude.{◌≡◌, ◌&&◌, ◌+◌, ◌<◌, ◌≤◌, ℕ, Bool, true, List, [], ◌∷◌, ◌++◌, map, Option, Some, None}
 use Rattle.std.specs.List.{list_all, AllByRecursion}
 use Rattle.std.specs.Option.{option_map}
 use Rattle.std.specs.Prelude.{option_and_then, IfSome}
@@ -19,8 +19,9 @@ use Rattle.formula_core.specs.GroundLists.{GroundList, IsGrown, IsNormalValue, t
 use Rattle.tableau_core.specs.Walks.{capped, shaped_by}
 use Rattle.tableau_core.specs.Numbered.LiteralView.{the_literal}
 use Rattle.tableau_core.specs.declared.literal.GroundLiteral as numbered
-use Rattle.tableau_cert.specs.SpotView.{the_spot, IsNormalSpot}
-use Rattle.tableau_cert.specs.declared.spot.Spot.{Spot}
+use Rattle.tableau_cert.specs.WayView.{IsInside, IsLabelOf, IsLonger, IsNormalWay, WayLists, cut_back, label_marks, point_of, the_spot}
+use Rattle.tableau_cert.specs.declared.way.WayPoint.{WayPoint}
+use Rattle.tableau_cert.specs.declared.task.PlacedPart.{PlacedPart}
 use Rattle.tableau_cert.specs.declared.task.Task as task
 use Rattle.tableau_cert.specs.declared.task.Supply as supply
 use Rattle.tableau_cert.specs.declared.task.Entered as entered
@@ -60,8 +61,14 @@ unfoldable pub gathered_all : Problem → Logic → List Open → Gathered → O
 gathered_all P l [] g = Some g
 gathered_all P l (t ∷ ts) g = option_and_then (gathered_all P l ts) (gathered P (part_of l t.formula t.sign) t.spot g)
 
-abbrev pub the_task : List GroundList → task.Task → Open
-the_task ls t = record { sign = t.part.sign; formula = the_formula t.part.formula.now; spot = the_spot ls t.spot }
+-- a part at the end of the way
+abbrev pub the_part : List GroundList → WayLists → PlacedPart → Open
+the_part ls w t = record { sign = t.part.sign; formula = the_formula t.part.formula.now; spot = the_spot ls w t.position }
+
+-- the parts that wait, the next one first: the way to each is a beginning of the way to the one before it
+abbrev pub open_tasks : List GroundList → WayLists → List task.Task → List Open
+open_tasks ls w [] = []
+open_tasks ls w (t ∷ ts) = the_part ls (cut_back w t.point) t.placed ∷ open_tasks ls (cut_back w t.point) ts
 
 abbrev pub the_supply : List GroundList → supply.Supply → Supply
 the_supply ls u = record { sides = u.sides.now; values = map (the_value ls) u.values.now }
@@ -69,9 +76,23 @@ the_supply ls u = record { sides = u.sides.now; values = map (the_value ls) u.va
 abbrev pub AreNormal : List GroundList → supply.Supply → Type 0
 AreNormal ls u = AllByRecursion (IsNormalValue ls) u.values.now
 
-pub record IsNormalTask (ls : List GroundList) (t : task.Task) : Type 0 where
-  pub spot : IsNormalSpot ls t.spot
-  pub fits : t.spot.position + size (the_formula t.part.formula.now) < 4294967296
+-- the number of positions of a part
+abbrev pub part_size : PlacedPart → ℕ
+part_size t = size (the_formula t.part.formula.now)
+
+abbrev pub IsFit : PlacedPart → Type 0
+IsFit t = t.position + part_size t < 4294967296
+
+-- the part waits at a point of the way
+pub record IsWaiting (ls : List GroundList) (w : WayLists) (t : task.Task) : Type 0 where
+  pub fits : IsFit t.placed
+  pub inside : IsInside t.point (point_of w)
+  pub start : t.point.start ≤ t.point.marks
+  pub label : IfSome t.point.label (IsLabelOf ls (label_marks (cut_back w t.point)))
+
+abbrev pub AreWaiting : List GroundList → WayLists → List task.Task → Type 0
+AreWaiting ls w [] = w ≡ w
+AreWaiting ls w (t ∷ ts) = IsWaiting ls w t × AreWaiting ls (cut_back w t.point) ts
 
 pub record IsNormalLiteral (ls : List GroundList) (x : numbered.GroundLiteral) : Type 0 where
   pub args : AreNormalTerms ls x.args
@@ -79,42 +100,45 @@ pub record IsNormalLiteral (ls : List GroundList) (x : numbered.GroundLiteral) :
 
 -- ---- past the modal step
 
-pub record IsPast (given ls : List GroundList) (c : Spot) (e : entered.Entered) : Type 0 where
-  pub spot : IsNormalSpot ls e.spot
+pub record IsPast (given ls : List GroundList) (v w : WayLists) (e : entered.Entered) : Type 0 where
+  pub way : IsNormalWay ls w
+  pub longer : IsLonger v w
   pub values : AreNormal given e.supply
-  pub position : e.spot.position ≡ c.position
 
 -- what is gathered of any part at a spot by what is left past its modal step
-abbrev pub modal_by : Problem → List GroundList → List GroundList → (tree.Spot → Supply → Option Part) → Option entered.Entered → Gathered → Option Gathered
-modal_by P given ls go None g = None
-modal_by P given ls go (Some e) g = gathered P go (the_spot ls e.spot) (with_rest g e.steps true (the_supply given e.supply))
+abbrev pub modal_by : Problem → List GroundList → List GroundList → WayLists → ℕ → (tree.Spot → Supply → Option Part) → Option entered.Entered → Gathered → Option Gathered
+modal_by P given ls w p go None g = None
+modal_by P given ls w p go (Some e) g = gathered P go (the_spot ls w p) (with_rest g e.steps true (the_supply given e.supply))
 
-pub record IsModal (l : Logic) (m : ModalPart) (given before after : List GroundList) (c : Spot) (u : supply.Supply) (o : Option entered.Entered) : Type 0 where
-  pub same : (P : Problem) (go : tree.Spot → Supply → Option Part) (g : Gathered) → g.rest ≡ the_supply given u → gathered P (at_modal l m go) (the_spot before c) g ≡ modal_by P given after go o g
-  pub past : IfSome o (IsPast given after c)
+pub record IsModal (l : Logic) (m : ModalPart) (given before after : List GroundList) (v w : WayLists) (p : ℕ) (u : supply.Supply) (o : Option entered.Entered) : Type 0 where
+  pub same : (P : Problem) (go : tree.Spot → Supply → Option Part) (g : Gathered) → g.rest ≡ the_supply given u → gathered P (at_modal l m go) (the_spot before v p) g ≡ modal_by P given after w p go o g
+  pub past : IfSome o (IsPast given after v w)
   pub grown : IsGrown before after
 
-pub record IsEntered (l : Logic) (given before after : List GroundList) (s : Sign) (f : Formula) (c : Spot) (u : supply.Supply) (o : Option entered.Entered) : Type 0 where
-  pub same : (P : Problem) (g : Gathered) → g.rest ≡ the_supply given u → gathered P (part_of l f s) (the_spot before c) g ≡ modal_by P given after (shaped_by l (shape_of s f) (components s f)) o g
-  pub past : IfSome o (IsPast given after c)
+pub record IsEntered (l : Logic) (given before after : List GroundList) (v w : WayLists) (s : Sign) (f : Formula) (p : ℕ) (u : supply.Supply) (o : Option entered.Entered) : Type 0 where
+  pub same : (P : Problem) (g : Gathered) → g.rest ≡ the_supply given u → gathered P (part_of l f s) (the_spot before v p) g ≡ modal_by P given after w p (shaped_by l (shape_of s f) (components s f)) o g
+  pub past : IfSome o (IsPast given after v w)
   pub grown : IsGrown before after
 
 -- ---- what a part gives
 
-abbrev pub tasks_in : opened.Opened → List task.Task
-tasks_in (Literal x) = []
-tasks_in (One t) = t ∷ []
-tasks_in (Two t u) = t ∷ u ∷ []
+abbrev pub parts_in : opened.Opened → List PlacedPart
+parts_in (Literal x) = []
+parts_in (One t) = t ∷ []
+parts_in (Two t u) = t ∷ u ∷ []
+
+abbrev pub task_at : WayPoint → PlacedPart → task.Task
+task_at p t = record { placed = t; point = p }
 
 abbrev pub literals_of : opened.Opened → List numbered.GroundLiteral
 literals_of (Literal x) = x ∷ []
 literals_of (One t) = []
 literals_of (Two t u) = []
 
-abbrev pub open_parts : List GroundList → opened.Opened → List Open
-open_parts ls (Literal x) = []
-open_parts ls (One t) = the_task ls t ∷ []
-open_parts ls (Two t u) = the_task ls t ∷ the_task ls u ∷ []
+abbrev pub open_parts : List GroundList → WayLists → opened.Opened → List Open
+open_parts ls w (Literal x) = []
+open_parts ls w (One t) = the_part ls w t ∷ []
+open_parts ls w (Two t u) = the_part ls w t ∷ the_part ls w u ∷ []
 
 -- with what the step gives
 abbrev pub with_step : List GroundList → Gathered → opened.Opened → Bool → Supply → Gathered
@@ -126,33 +150,32 @@ with_step ls g (Two t v) b u = with_rest g 0 b u
 abbrev pub with_steps : List GroundList → Gathered → opened.Opened → Bool → ℕ → Supply → Gathered
 with_steps ls g o b n u = record { literals = g.literals ++ map (the_literal ls) (literals_of o); allowed = g.allowed && b; steps = capped (g.steps + n); rest = u }
 
-abbrev pub opened_by : Problem → Logic → List GroundList → List GroundList → Option step.Step → Gathered → Option Gathered
-opened_by P l given ls None g = None
-opened_by P l given ls (Some x) g = gathered_all P l (open_parts ls x.opened) (with_step ls g x.opened x.allowed (the_supply given x.supply))
+abbrev pub opened_by : Problem → Logic → List GroundList → List GroundList → WayLists → Option step.Step → Gathered → Option Gathered
+opened_by P l given ls w None g = None
+opened_by P l given ls w (Some x) g = gathered_all P l (open_parts ls w x.opened) (with_step ls g x.opened x.allowed (the_supply given x.supply))
 
-abbrev pub AreNormalParts : List GroundList → opened.Opened → Type 0
-AreNormalParts ls (Literal x) = IsNormalLiteral ls x
-AreNormalParts ls (One t) = IsNormalTask ls t
-AreNormalParts ls (Two t u) = IsNormalTask ls t × IsNormalTask ls u
+abbrev pub AreFit : List GroundList → opened.Opened → Type 0
+AreFit ls (Literal x) = IsNormalLiteral ls x
+AreFit ls (One t) = IsFit t
+AreFit ls (Two t u) = IsFit t × IsFit u
 
 -- the number of positions of the open parts
-abbrev pub task_size : task.Task → ℕ
-task_size t = size (the_formula t.part.formula.now)
-
 abbrev pub opened_size : opened.Opened → ℕ
 opened_size (Literal x) = 0
-opened_size (One t) = task_size t
-opened_size (Two t u) = task_size t + task_size u
+opened_size (One t) = part_size t
+opened_size (Two t u) = part_size t + part_size u
 
-pub record IsStep (given ls : List GroundList) (n : ℕ) (x : step.Step) : Type 0 where
-  pub parts : AreNormalParts ls x.opened
+pub record IsStep (given ls : List GroundList) (v w : WayLists) (n : ℕ) (x : step.Step) : Type 0 where
+  pub way : IsNormalWay ls w
+  pub longer : IsLonger v w
+  pub parts : AreFit ls x.opened
   pub values : AreNormal given x.supply
   pub smaller : opened_size x.opened < n
 
 -- the goal is what is gathered of a signed formula past its modal step
-pub record IsOpened (P : Problem) (l : Logic) (given before after : List GroundList) (go : tree.Spot → Supply → Option Part) (n : ℕ) (c : Spot) (u : supply.Supply) (o : Option step.Step) : Type 0 where
-  pub same : (g : Gathered) → g.rest ≡ the_supply given u → gathered P go (the_spot before c) g ≡ opened_by P l given after o g
-  pub step : IfSome o (IsStep given after n)
+pub record IsOpened (P : Problem) (l : Logic) (given before after : List GroundList) (v w : WayLists) (go : tree.Spot → Supply → Option Part) (n : ℕ) (p : ℕ) (u : supply.Supply) (o : Option step.Step) : Type 0 where
+  pub same : (g : Gathered) → g.rest ≡ the_supply given u → gathered P go (the_spot before v p) g ≡ opened_by P l given after w o g
+  pub step : IfSome o (IsStep given after v w n)
   pub grown : IsGrown before after
 
 -- ---- the whole instance
@@ -189,11 +212,11 @@ abbrev pub root_part : Problem → Open
 root_part P = record { sign = F; formula = P.formula; spot = tree.root_spot }
 
 -- what is gathered of an open part by what it gives and the number of its steps
-abbrev pub taken_by : Problem → Logic → List GroundList → List GroundList → Option (step.Step × ℕ) → Gathered → Option Gathered
-taken_by P l given ls None g = None
-taken_by P l given ls (Some x) g = gathered_all P l (open_parts ls x.0.opened) (with_steps ls g x.0.opened x.0.allowed x.1 (the_supply given x.0.supply))
+abbrev pub taken_by : Problem → Logic → List GroundList → List GroundList → WayLists → Option (step.Step × ℕ) → Gathered → Option Gathered
+taken_by P l given ls w None g = None
+taken_by P l given ls w (Some x) g = gathered_all P l (open_parts ls w x.0.opened) (with_steps ls g x.0.opened x.0.allowed x.1 (the_supply given x.0.supply))
 
-pub record IsTaken (P : Problem) (l : Logic) (given before after : List GroundList) (t : task.Task) (u : supply.Supply) (o : Option (step.Step × ℕ)) : Type 0 where
-  pub same : (g : Gathered) → g.rest ≡ the_supply given u → gathered P (part_of l (the_formula t.part.formula.now) t.part.sign) (the_spot before t.spot) g ≡ taken_by P l given after o g
-  pub step : IfSome o (λ x. IsStep given after (task_size t) x.0)
+pub record IsTaken (P : Problem) (l : Logic) (given before after : List GroundList) (v w : WayLists) (t : PlacedPart) (u : supply.Supply) (o : Option (step.Step × ℕ)) : Type 0 where
+  pub same : (g : Gathered) → g.rest ≡ the_supply given u → gathered P (part_of l (the_formula t.part.formula.now) t.part.sign) (the_spot before v t.position) g ≡ taken_by P l given after w o g
+  pub step : IfSome o (λ x. IsStep given after v w (part_size t) x.0)
   pub grown : IsGrown before after

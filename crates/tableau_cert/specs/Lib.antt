@@ -1,5 +1,5 @@
 pub mod VerdictView
-pub mod SpotView
+pub mod WayView
 pub mod Made
 pub mod Numbers
 pub mod Gathering

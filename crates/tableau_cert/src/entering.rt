@@ -1,6 +1,6 @@
 //! The modal step of a part of an instance.
 
-ghost use Rattle.std.specs.Prelude.{◌≡◌, false, ◌∷◌, map, List, IfOk, MatchOption};
+ghost use Rattle.std.specs.Prelude.{◌≡◌, false, ◌∷◌, ℕ, map, List, IfOk, MatchOption};
 ghost use Rattle.calculus.specs.Kinds.{components, shape_of};
 ghost use Rattle.formula_core.specs.FormulaView.{the_formula};
 ghost use Rattle.formula_core.specs.GroundLists.{GroundList, IsGrown, the_value};
@@ -8,15 +8,14 @@ ghost use Rattle.calculus.specs.declared.kind.ModalPart.TheVariants as modal;
 ghost use Rattle.formula_core.specs.declared.ground.Value.TheVariants as value;
 ghost use Rattle.tableau_core.specs.Walks.{starts_with_string};
 ghost use Rattle.tableau_cert.specs.Gathering.{AreNormal, IsEntered, IsModal};
-ghost use Rattle.tableau_cert.specs.SpotView.{IsNormalSpot};
+ghost use Rattle.tableau_cert.specs.WayView.{IsNormalWay, the_way};
 
-use crate::spot::Spot;
 use crate::stepping::{after_mark, after_string};
-use crate::task::{Entered, Supply, Task};
+use crate::task::{Entered, PlacedPart, Supply};
+use crate::way::Way;
 use cop_base::NoMemory;
 use formula_core::{GroundLabel, GroundTable, Value};
 use logic_rules::{Logic, ModalPart, kind_of};
-use std::alloc::Global;
 
 // The string that comes first, and the values after it.
 #[derive(Clone, Copy)]
@@ -43,17 +42,16 @@ fn next_string(values: &[Value]) -> Option<NextString>
 
 // Past the string that comes first, where it is one of a nu step.
 fn enter_nu<'v>(
-    alloc: Global,
-    table: &mut GroundTable,
+    table: &GroundTable,
+    way: &mut Way,
     logic: Logic,
-    spot: Spot,
     given: &GroundTable,
     supply: Supply<'v>,
 ) -> Result<Option<Entered<'v>>, NoMemory>
-    requires spot { IsNormalSpot table.old spot }
+    requires way { IsNormalWay table.now (the_way way.old) }
     requires values { AreNormal given.now supply }
-    requires grown { IsGrown given.now table.old }
-    ensures { IfOk result (λ o. IsModal logic modal.Nu given.now table.old table.new spot supply.entry o) }
+    requires grown { IsGrown given.now table.now }
+    ensures { (position : ℕ) → IfOk result (λ o. IsModal logic modal.Nu given.now table.now table.now (the_way way.old) (the_way way.new) position supply.entry o) }
 {
     match next_string(supply.values) {
         None => Ok(None),
@@ -62,9 +60,8 @@ fn enter_nu<'v>(
             if !logic.is_step_length(string.len()) {
                 return Ok(None);
             }
-            let past = after_string(alloc, table, logic, spot, next.string)?;
+            after_string(table, way, logic, next.string)?;
             Ok(Some(Entered {
-                spot: past,
                 supply: Supply {
                     sides: supply.sides,
                     values: next.after,
@@ -76,50 +73,43 @@ fn enter_nu<'v>(
 }
 
 fn enter_pi<'v>(
-    alloc: Global,
     table: &mut GroundTable,
+    way: &mut Way,
     logic: Logic,
-    spot: Spot,
+    position: u32,
     supply: Supply<'v>,
 ) -> Result<Option<Entered<'v>>, NoMemory>
-    requires spot { IsNormalSpot table.old spot }
+    requires way { IsNormalWay table.old (the_way way.old) }
     ensures { (given : List GroundList) → AreNormal given supply.entry
-        → IfOk result (λ o. IsModal logic modal.Pi given table.old table.new spot supply.entry o) }
+        → IfOk result (λ o. IsModal logic modal.Pi given table.old table.new (the_way way.old) (the_way way.new) position supply.entry o) }
 {
-    let past = after_mark(alloc, table, logic, spot)?;
-    Ok(Some(Entered {
-        spot: past,
-        supply,
-        steps: 1,
-    }))
+    after_mark(table, way, logic, position)?;
+    Ok(Some(Entered { supply, steps: 1 }))
 }
 
-/// Past the modal step of the part, where it has one; nothing where a string is missing or too long.
+/// Past the modal step of the part at the end of the way, where it has one; nothing where a string is
+/// missing or too long.
 pub fn enter<'v>(
-    alloc: Global,
     table: &mut GroundTable,
+    way: &mut Way,
     logic: Logic,
-    task: Task,
+    placed: PlacedPart,
     given: &GroundTable,
     supply: Supply<'v>,
 ) -> Result<Option<Entered<'v>>, NoMemory>
-    requires spot { IsNormalSpot table.old task.spot }
+    requires way { IsNormalWay table.old (the_way way.old) }
     requires values { AreNormal given.now supply }
     requires grown { IsGrown given.now table.old }
-    ensures { IfOk result (λ o. IsEntered logic given.now table.old table.new task.entry.part.sign (the_formula task.entry.part.formula.now) task.entry.spot supply.entry o) }
+    ensures { IfOk result (λ o. IsEntered logic given.now table.old table.new (the_way way.old) (the_way way.new) placed.entry.part.sign (the_formula placed.entry.part.formula.now) placed.entry.position supply.entry o) }
 {
-    match kind_of(logic, task.part.sign, task.part.formula).modal {
-        ModalPart::Plain => Ok(Some(Entered {
-            spot: task.spot,
-            supply,
-            steps: 0,
-        })),
+    match kind_of(logic, placed.part.sign, placed.part.formula).modal {
+        ModalPart::Plain => Ok(Some(Entered { supply, steps: 0 })),
         ModalPart::Nu => {
-            let entered = enter_nu(alloc, table, logic, task.spot, given, supply)?;
+            let entered = enter_nu(table, way, logic, given, supply)?;
             Ok(entered)
         }
         ModalPart::Pi => {
-            let entered = enter_pi(alloc, table, logic, task.spot, supply)?;
+            let entered = enter_pi(table, way, logic, placed.position, supply)?;
             Ok(entered)
         }
     }

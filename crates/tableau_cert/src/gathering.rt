@@ -1,16 +1,17 @@
 //! The literals of an instance, by its sides and values.
 
-ghost use Rattle.std.specs.Prelude.{◌≡◌, ◌≤◌, ◌++◌, ◌&&◌, List, length, reverse, IfOk, OnOk};
+ghost use Rattle.std.specs.Prelude.{◌≡◌, ◌++◌, ◌&&◌, List, map, reverse, IfOk, OnOk};
 ghost use Rattle.calculus.specs.Skolem.{is_empty};
-ghost use Rattle.formula_core.specs.GroundLists.{GroundList, IsGrown, no_list};
-ghost use Rattle.tableau_cert.specs.Gathering.{AreNormal, IsGathered, IsNormalTask, IsTaken, literals_of, root_part, tasks_in, the_supply, the_task};
+ghost use Rattle.formula_core.specs.GroundLists.{GroundList, IsGrown};
+ghost use Rattle.tableau_cert.specs.WayView.{IsNormalWay, empty_way, point_of, the_way};
+ghost use Rattle.tableau_cert.specs.Gathering.{AreNormal, IsFit, IsGathered, IsTaken, literals_of, parts_in, root_part, task_at, the_part, the_supply};
 
 use crate::entering::enter;
 use crate::opening::open_part;
-use crate::spot::Spot;
-use crate::task::{Opened, Step, Supply, Task};
+use crate::task::{Opened, PlacedPart, Step, Supply, Task};
+use crate::way::{Way, WayPoint, root_point};
 use cop_base::NoMemory;
-use formula_core::{GroundLabel, GroundTable, GroundTerms, Values};
+use formula_core::GroundTable;
 use logic_rules::Logic;
 use std::alloc::Global;
 use tableau_core::{LiteralList, SizedProblem};
@@ -25,13 +26,14 @@ pub struct Gathered {
     pub used_up: bool,
 }
 
-// Puts what a part gives before the open parts, or behind the literals.
+// Puts what a part gives, which is at the point, before the open parts, or behind the literals.
 fn put<'p>(
     tasks: &mut Vec<Task<'p>>,
     literals: &mut LiteralList,
     opened: Opened<'p>,
+    point: WayPoint,
 ) -> Result<(), NoMemory>
-    ensures tasks { OnOk result (tasks.new.items ≡ tasks.old.items ++ reverse (tasks_in opened.entry)) }
+    ensures tasks { OnOk result (tasks.new.items ≡ tasks.old.items ++ reverse (map (task_at point) (parts_in opened.entry))) }
     ensures literals { OnOk result (literals.new ≡ literals.old ++ literals_of opened.entry) }
 {
     match opened {
@@ -39,12 +41,21 @@ fn put<'p>(
             literals.push(literal)?;
             Ok(())
         }
-        Opened::One(task) => {
-            tasks.push(task)?;
+        Opened::One(placed) => {
+            tasks.push(Task { placed, point })?;
             Ok(())
         }
         Opened::Two(first, second) => {
-            let both = [second, first];
+            let both = [
+                Task {
+                    placed: second,
+                    point,
+                },
+                Task {
+                    placed: first,
+                    point,
+                },
+            ];
             tasks.extend_from_slice(&both)?;
             Ok(())
         }
@@ -59,17 +70,16 @@ fn logic_of(problem: &SizedProblem) -> Logic
 
 // The whole formula at the root.
 fn root<'p>(problem: &'p SizedProblem) -> Task<'p>
-    ensures root { (ls : List GroundList) → length ls ≤ no_list → the_task ls result ≡ root_part problem.now }
-    ensures normal { (ls : List GroundList) → length ls ≤ no_list → IsNormalTask ls result }
+    ensures root { (ls : List GroundList) → the_part ls empty_way result.placed ≡ root_part problem.now }
+    ensures fits { IsFit result.placed }
+    ensures point { result.point ≡ point_of empty_way }
 {
     Task {
-        part: problem.whole(),
-        spot: Spot {
+        placed: PlacedPart {
+            part: problem.whole(),
             position: 0,
-            label: GroundLabel(GroundTable::EMPTY),
-            taken: Values(GroundTable::EMPTY),
-            env: GroundTerms(GroundTable::EMPTY),
         },
+        point: root_point(),
     }
 }
 
@@ -81,33 +91,27 @@ fn is_used_up(rest: Supply) -> bool
     rest.sides.is_empty() && rest.values.is_empty()
 }
 
-// What the part gives past its modal step, and the number of steps.
+// What the part at the end of the way gives past its modal step, and the number of steps.
 fn step_of<'p, 'v>(
     alloc: Global,
     problem: &SizedProblem,
     logic: Logic,
     table: &mut GroundTable,
+    way: &mut Way,
     given: &GroundTable,
-    task: Task<'p>,
+    placed: PlacedPart<'p>,
     supply: Supply<'v>,
 ) -> Result<Option<(Step<'p, 'v>, u64)>, NoMemory>
-    requires task { IsNormalTask table.old task }
+    requires fits { IsFit placed }
+    requires way { IsNormalWay table.old (the_way way.old) }
     requires values { AreNormal given.now supply }
     requires grown { IsGrown given.now table.old }
-    ensures { IfOk result (λ o. IsTaken problem.now logic given.now table.old table.new task.entry supply.entry o) }
+    ensures { IfOk result (λ o. IsTaken problem.now logic given.now table.old table.new (the_way way.old) (the_way way.new) placed.entry supply.entry o) }
 {
-    match enter(alloc, table, logic, task, given, supply)? {
+    match enter(table, way, logic, placed, given, supply)? {
         None => Ok(None),
         Some(entered) => {
-            let opened = open_part(
-                alloc,
-                problem,
-                table,
-                given,
-                task.part,
-                entered.spot,
-                entered.supply,
-            )?;
+            let opened = open_part(alloc, problem, table, way, given, placed, entered.supply)?;
             match opened {
                 None => Ok(None),
                 Some(step) => Ok(Some((step, entered.steps))),
@@ -130,6 +134,7 @@ pub fn gather(
 {
     let logic = logic_of(problem);
     let mut tasks = Vec::new(alloc);
+    let mut way = Way::new(alloc);
     let first = root(problem);
     tasks.push(first)?;
     let mut literals = LiteralList::new(alloc);
@@ -137,10 +142,20 @@ pub fn gather(
     let mut steps: u64 = 0;
     let mut rest = supply;
     while let Some(task) = tasks.pop() {
-        match step_of(alloc, problem, logic, table, given, task, rest)? {
+        way.cut(task.point);
+        match step_of(
+            alloc,
+            problem,
+            logic,
+            table,
+            &mut way,
+            given,
+            task.placed,
+            rest,
+        )? {
             None => return Ok(None),
             Some((step, more)) => {
-                put(&mut tasks, &mut literals, step.opened)?;
+                put(&mut tasks, &mut literals, step.opened, way.end())?;
                 rest = step.supply;
                 steps = steps.saturating_add(more);
                 allowed &= step.allowed;

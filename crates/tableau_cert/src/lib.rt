@@ -14,10 +14,10 @@ mod opening;
 mod parse_fault;
 mod resolving;
 mod selection;
-mod spot;
 mod stepping;
 mod task;
 mod verdict;
+mod way;
 
 pub use calculus::fault::TableauFault;
 pub use calls::{check_tableau, parse_tableau, print_tableau};

@@ -1,6 +1,6 @@
 //! What a part of an instance gives past its modal step.
 
-ghost use Rattle.std.specs.Prelude.{◌≡◌, false, ◌∷◌, ◌+◌, ◌<◌, ◌≤◌, [], length, map, suc, List, IfOk, IfSome, MatchOption};
+ghost use Rattle.std.specs.Prelude.{◌≡◌, ℕ, false, ◌∷◌, ◌+◌, ◌<◌, ◌≤◌, [], length, map, suc, List, IfOk, MatchOption};
 ghost use Rattle.calculus.specs.ComputedInstances.{at_one, at_quantifier, at_two, part_of};
 ghost use Rattle.calculus.specs.Kinds.{components, shape_of};
 ghost use Rattle.calculus.specs.Lists.{terms_tree};
@@ -10,16 +10,16 @@ ghost use Rattle.calculus.specs.Syntax as tree;
 ghost use Rattle.calculus.specs.declared.kind.Shape.TheVariants as shape;
 ghost use Rattle.calculus.specs.declared.setting.Logic.{Logic};
 ghost use Rattle.formula_core.specs.FormulaView.{the_formula};
-ghost use Rattle.formula_core.specs.GroundLists.{GroundList, IsGrown, no_list, the_g_term, the_marks, the_value};
+ghost use Rattle.formula_core.specs.GroundLists.{GroundList, IsGrown, no_list, the_g_term, the_value};
 ghost use Rattle.formula_core.specs.declared.ground.Value.TheVariants as value;
 ghost use Rattle.tableau_core.specs.Walks.{at_atom, shaped_by, starts_with_term};
 ghost use Rattle.tableau_cert.specs.Gathering.{AreNormal, IsOpened};
-ghost use Rattle.tableau_cert.specs.SpotView.{IsNormalSpot};
+ghost use Rattle.tableau_cert.specs.WayView.{IsNormalWay, WayLists, the_label, the_way};
 
 use crate::grounding::ground_terms;
-use crate::spot::{Spot, down_by};
 use crate::stepping::{inside_delta, inside_gamma};
-use crate::task::{Opened, Step, Supply, Task};
+use crate::task::{Opened, PlacedPart, Step, Supply};
+use crate::way::Way;
 use calculus::sign::Side;
 use cop_base::{NoMemory, SymbolId};
 use formula_core::{GroundTable, GroundTerm, Sign, Terms, Value};
@@ -67,23 +67,24 @@ fn next_side(sides: &[Side]) -> Option<NextSide>
 fn open_literal<'p, 'v>(
     alloc: Global,
     table: &mut GroundTable,
+    way: &mut Way,
     sign: Sign,
     symbol: SymbolId,
     args: &Terms,
-    spot: Spot,
     supply: Supply<'v>,
 ) -> Result<Option<Step<'p, 'v>>, NoMemory>
-    requires spot { IsNormalSpot table.old spot }
+    requires way { IsNormalWay table.old (the_way way.old) }
     requires most { length table.old ≤ no_list }
-    ensures { (P : tree.Problem) (l : Logic) (given : List GroundList) → AreNormal given supply.entry
-        → IfOk result (λ o. IsOpened P l given table.old table.new (at_atom sign (tree.atom symbol.0 (terms_tree args.now))) 1 spot supply.entry o) }
+    ensures { (P : tree.Problem) (l : Logic) (given : List GroundList) (position : ℕ) → AreNormal given supply.entry
+        → IfOk result (λ o. IsOpened P l given table.old table.new (the_way way.old) (the_way way.new) (at_atom sign (tree.atom symbol.0 (terms_tree args.now))) 1 position supply.entry o) }
 {
-    let args = ground_terms(alloc, table, spot.env, args)?;
+    let args = ground_terms(alloc, table, &way.bindings, args)?;
+    let label = way.label_in(table)?;
     let literal = GroundLiteral {
         sign,
         symbol,
         args,
-        label: spot.label,
+        label,
     };
     Ok(Some(Step {
         opened: Opened::Literal(literal),
@@ -93,15 +94,15 @@ fn open_literal<'p, 'v>(
 }
 
 // The one component.
-fn open_one<'p, 'v>(part: Part<'p>, spot: Spot, supply: Supply<'v>) -> Option<Step<'p, 'v>>
-    requires { spot.position + suc (size (the_formula part.formula.now)) < 4294967296 }
-    ensures { (P : tree.Problem) (l : Logic) (given ls : List GroundList) → AreNormal given supply.entry → IsNormalSpot ls spot → IsGrown given ls
-        → IsOpened P l given ls ls (at_one (part_of l (the_formula part.entry.formula.now) part.entry.sign)) (suc (size (the_formula part.entry.formula.now))) spot supply.entry result }
+fn open_one<'p, 'v>(part: Part<'p>, position: u32, supply: Supply<'v>) -> Option<Step<'p, 'v>>
+    requires { position + suc (size (the_formula part.formula.now)) < 4294967296 }
+    ensures { (P : tree.Problem) (l : Logic) (given ls : List GroundList) (w : WayLists) → AreNormal given supply.entry → IsNormalWay ls w → IsGrown given ls
+        → IsOpened P l given ls ls w w (at_one (part_of l (the_formula part.entry.formula.now) part.entry.sign)) (suc (size (the_formula part.entry.formula.now))) position supply.entry result }
 {
     Some(Step {
-        opened: Opened::One(Task {
+        opened: Opened::One(PlacedPart {
             part,
-            spot: down_by(spot, 1),
+            position: position + 1,
         }),
         allowed: true,
         supply,
@@ -112,13 +113,13 @@ fn open_one<'p, 'v>(part: Part<'p>, spot: Spot, supply: Supply<'v>) -> Option<St
 fn open_alpha<'p, 'v>(
     a: Part<'p>,
     b: Part<'p>,
-    spot: Spot,
+    position: u32,
     supply: Supply<'v>,
 ) -> Option<Step<'p, 'v>>
-    requires { spot.position + suc (size (the_formula a.formula.now) + size (the_formula b.formula.now)) < 4294967296 }
-    ensures { (P : tree.Problem) (l : Logic) (given ls : List GroundList) → AreNormal given supply.entry → IsNormalSpot ls spot → IsGrown given ls
-        → IsOpened P l given ls ls (at_two shape.Alpha (size (the_formula a.entry.formula.now)) (part_of l (the_formula a.entry.formula.now) a.entry.sign) (part_of l (the_formula b.entry.formula.now) b.entry.sign))
-        (suc (size (the_formula a.entry.formula.now) + size (the_formula b.entry.formula.now))) spot supply.entry result }
+    requires { position + suc (size (the_formula a.formula.now) + size (the_formula b.formula.now)) < 4294967296 }
+    ensures { (P : tree.Problem) (l : Logic) (given ls : List GroundList) (w : WayLists) → AreNormal given supply.entry → IsNormalWay ls w → IsGrown given ls
+        → IsOpened P l given ls ls w w (at_two shape.Alpha (size (the_formula a.entry.formula.now)) (part_of l (the_formula a.entry.formula.now) a.entry.sign) (part_of l (the_formula b.entry.formula.now) b.entry.sign))
+        (suc (size (the_formula a.entry.formula.now) + size (the_formula b.entry.formula.now))) position supply.entry result }
 {
     match next_side(supply.sides) {
         None => None,
@@ -129,9 +130,9 @@ fn open_alpha<'p, 'v>(
             };
             match next.side {
                 Side::Left => Some(Step {
-                    opened: Opened::One(Task {
+                    opened: Opened::One(PlacedPart {
                         part: a,
-                        spot: down_by(spot, 1),
+                        position: position + 1,
                     }),
                     allowed: true,
                     supply: rest,
@@ -139,9 +140,9 @@ fn open_alpha<'p, 'v>(
                 Side::Right => {
                     let further = a.size() + 1;
                     Some(Step {
-                        opened: Opened::One(Task {
+                        opened: Opened::One(PlacedPart {
                             part: b,
-                            spot: down_by(spot, further),
+                            position: position + further,
                         }),
                         allowed: true,
                         supply: rest,
@@ -152,48 +153,52 @@ fn open_alpha<'p, 'v>(
     }
 }
 
-// Beta has both components.
+// Beta has both components, which share the label's number.
 fn open_beta<'p, 'v>(
+    table: &mut GroundTable,
+    way: &mut Way,
     a: Part<'p>,
     b: Part<'p>,
-    spot: Spot,
+    position: u32,
     supply: Supply<'v>,
-) -> Option<Step<'p, 'v>>
-    requires { spot.position + suc (size (the_formula a.formula.now) + size (the_formula b.formula.now)) < 4294967296 }
-    ensures { (P : tree.Problem) (l : Logic) (given ls : List GroundList) → AreNormal given supply.entry → IsNormalSpot ls spot → IsGrown given ls
-        → IsOpened P l given ls ls (at_two shape.Beta (size (the_formula a.entry.formula.now)) (part_of l (the_formula a.entry.formula.now) a.entry.sign) (part_of l (the_formula b.entry.formula.now) b.entry.sign))
-        (suc (size (the_formula a.entry.formula.now) + size (the_formula b.entry.formula.now))) spot supply.entry result }
+) -> Result<Option<Step<'p, 'v>>, NoMemory>
+    requires fits { position + suc (size (the_formula a.formula.now) + size (the_formula b.formula.now)) < 4294967296 }
+    requires way { IsNormalWay table.old (the_way way.old) }
+    requires most { length table.old ≤ no_list }
+    ensures { (P : tree.Problem) (l : Logic) (given : List GroundList) → AreNormal given supply.entry
+        → IfOk result (λ o. IsOpened P l given table.old table.new (the_way way.old) (the_way way.new) (at_two shape.Beta (size (the_formula a.entry.formula.now)) (part_of l (the_formula a.entry.formula.now) a.entry.sign) (part_of l (the_formula b.entry.formula.now) b.entry.sign))
+        (suc (size (the_formula a.entry.formula.now) + size (the_formula b.entry.formula.now))) position supply.entry o) }
 {
+    let _shared = way.label_in(table)?;
     let further = a.size() + 1;
-    let first = down_by(spot, 1);
-    let second = down_by(spot, further);
-    Some(Step {
+    Ok(Some(Step {
         opened: Opened::Two(
-            Task {
+            PlacedPart {
                 part: a,
-                spot: first,
+                position: position + 1,
             },
-            Task {
+            PlacedPart {
                 part: b,
-                spot: second,
+                position: position + further,
             },
         ),
         allowed: true,
         supply,
-    })
+    }))
 }
 
-// Whether the term may stand at the spot's label.
+// Whether the term may stand at the label at the end of the way.
 fn is_allowed_at(
     alloc: Global,
     problem: &SizedProblem,
     table: &GroundTable,
-    spot: Spot,
+    way: &Way,
     term: GroundTerm,
 ) -> Result<bool, NoMemory>
-    ensures { IfOk result (λ b. b ≡ is_allowed problem.now (the_marks table.now spot.label) (the_g_term table.now term)) }
+    requires { IsNormalWay table.now (the_way way.now) }
+    ensures { IfOk result (λ b. b ≡ is_allowed problem.now (the_label table.now (the_way way.now)) (the_g_term table.now term)) }
 {
-    let label = given_marks(alloc, table.marks(spot.label))?;
+    let label = given_marks(alloc, &way.marks[way.start..])?;
     let allowed = is_allowed(alloc, problem, table, &label, term)?;
     Ok(allowed)
 }
@@ -202,27 +207,27 @@ fn is_allowed_at(
 fn open_gamma<'p, 'v>(
     alloc: Global,
     problem: &SizedProblem,
-    table: &mut GroundTable,
+    table: &GroundTable,
+    way: &mut Way,
     given: &GroundTable,
-    a: Part<'p>,
-    spot: Spot,
+    a: PlacedPart<'p>,
     supply: Supply<'v>,
 ) -> Result<Option<Step<'p, 'v>>, NoMemory>
-    requires fits { spot.position + suc (size (the_formula a.formula.now)) < 4294967296 }
-    requires spot { IsNormalSpot table.old spot }
+    requires fits { a.position + suc (size (the_formula a.part.formula.now)) < 4294967296 }
+    requires way { IsNormalWay table.now (the_way way.old) }
     requires values { AreNormal given.now supply }
-    requires grown { IsGrown given.now table.old }
-    ensures { (l : Logic) → IfOk result (λ o. IsOpened problem.now l given.now table.old table.new (at_quantifier shape.Gamma (part_of l (the_formula a.entry.formula.now) a.entry.sign)) (suc (size (the_formula a.entry.formula.now))) spot supply.entry o) }
+    requires grown { IsGrown given.now table.now }
+    ensures { (l : Logic) → IfOk result (λ o. IsOpened problem.now l given.now table.now table.now (the_way way.old) (the_way way.new) (at_quantifier shape.Gamma (part_of l (the_formula a.entry.part.formula.now) a.entry.part.sign)) (suc (size (the_formula a.entry.part.formula.now))) a.entry.position supply.entry o) }
 {
     match next_term(supply.values) {
         None => Ok(None),
         Some(next) => {
-            let allowed = is_allowed_at(alloc, problem, table, spot, next.term)?;
-            let inside = inside_gamma(alloc, table, spot, next.term)?;
+            let allowed = is_allowed_at(alloc, problem, table, way, next.term)?;
+            inside_gamma(way, next.term)?;
             Ok(Some(Step {
-                opened: Opened::One(Task {
-                    part: a,
-                    spot: inside,
+                opened: Opened::One(PlacedPart {
+                    part: a.part,
+                    position: a.position + 1,
                 }),
                 allowed,
                 supply: Supply {
@@ -236,59 +241,65 @@ fn open_gamma<'p, 'v>(
 
 // Delta puts the eigenvariable of its position.
 fn open_delta<'p, 'v>(
-    alloc: Global,
     table: &mut GroundTable,
+    way: &mut Way,
     a: Part<'p>,
-    spot: Spot,
+    position: u32,
     supply: Supply<'v>,
 ) -> Result<Option<Step<'p, 'v>>, NoMemory>
-    requires fits { spot.position + suc (size (the_formula a.formula.now)) < 4294967296 }
-    requires spot { IsNormalSpot table.old spot }
+    requires fits { position + suc (size (the_formula a.formula.now)) < 4294967296 }
+    requires way { IsNormalWay table.old (the_way way.old) }
     ensures { (P : tree.Problem) (l : Logic) (given : List GroundList) → AreNormal given supply.entry
-        → IfOk result (λ o. IsOpened P l given table.old table.new (at_quantifier shape.Delta (part_of l (the_formula a.entry.formula.now) a.entry.sign)) (suc (size (the_formula a.entry.formula.now))) spot supply.entry o) }
+        → IfOk result (λ o. IsOpened P l given table.old table.new (the_way way.old) (the_way way.new) (at_quantifier shape.Delta (part_of l (the_formula a.entry.formula.now) a.entry.sign)) (suc (size (the_formula a.entry.formula.now))) position supply.entry o) }
 {
-    let inside = inside_delta(alloc, table, spot)?;
+    inside_delta(table, way, position)?;
     Ok(Some(Step {
-        opened: Opened::One(Task {
+        opened: Opened::One(PlacedPart {
             part: a,
-            spot: inside,
+            position: position + 1,
         }),
         allowed: true,
         supply,
     }))
 }
 
-/// What the part at the spot gives; nothing where a side or a term is missing.
+/// What the part at the end of the way gives; nothing where a side or a term is missing.
 pub fn open_part<'p, 'v>(
     alloc: Global,
     problem: &SizedProblem,
     table: &mut GroundTable,
+    way: &mut Way,
     given: &GroundTable,
-    part: Part<'p>,
-    spot: Spot,
+    placed: PlacedPart<'p>,
     supply: Supply<'v>,
 ) -> Result<Option<Step<'p, 'v>>, NoMemory>
-    requires fits { spot.position + size (the_formula part.formula.now) < 4294967296 }
-    requires spot { IsNormalSpot table.old spot }
+    requires fits { placed.position + size (the_formula placed.part.formula.now) < 4294967296 }
+    requires way { IsNormalWay table.old (the_way way.old) }
     requires values { AreNormal given.now supply }
     requires grown { IsGrown given.now table.old }
-    ensures { (l : Logic) → IfOk result (λ o. IsOpened problem.now l given.now table.old table.new
-        (shaped_by l (shape_of part.entry.sign (the_formula part.entry.formula.now)) (components part.entry.sign (the_formula part.entry.formula.now))) (size (the_formula part.entry.formula.now)) spot supply.entry o) }
+    ensures { (l : Logic) → IfOk result (λ o. IsOpened problem.now l given.now table.old table.new (the_way way.old) (the_way way.new)
+        (shaped_by l (shape_of placed.entry.part.sign (the_formula placed.entry.part.formula.now)) (components placed.entry.part.sign (the_formula placed.entry.part.formula.now))) (size (the_formula placed.entry.part.formula.now)) placed.entry.position supply.entry o) }
 {
-    match components_of(part) {
+    let position = placed.position;
+    match components_of(placed.part) {
         Parts::Literal(symbol, args) => {
-            let step = open_literal(alloc, table, part.sign, symbol, args, spot, supply)?;
+            let sign = placed.part.sign;
+            let step = open_literal(alloc, table, way, sign, symbol, args, supply)?;
             Ok(step)
         }
-        Parts::One(a) => Ok(open_one(a, spot, supply)),
-        Parts::Alpha(a, b) => Ok(open_alpha(a, b, spot, supply)),
-        Parts::Beta(a, b) => Ok(open_beta(a, b, spot, supply)),
-        Parts::Gamma(a) => {
-            let step = open_gamma(alloc, problem, table, given, a, spot, supply)?;
+        Parts::One(a) => Ok(open_one(a, position, supply)),
+        Parts::Alpha(a, b) => Ok(open_alpha(a, b, position, supply)),
+        Parts::Beta(a, b) => {
+            let step = open_beta(table, way, a, b, position, supply)?;
+            Ok(step)
+        }
+        Parts::Gamma(part) => {
+            let a = PlacedPart { part, position };
+            let step = open_gamma(alloc, problem, table, way, given, a, supply)?;
             Ok(step)
         }
         Parts::Delta(a) => {
-            let step = open_delta(alloc, table, a, spot, supply)?;
+            let step = open_delta(table, way, a, position, supply)?;
             Ok(step)
         }
     }

@@ -1,7 +1,7 @@
 use Rattle.std.proofs.Common.{map}
 use Rattle.formula_core.specs.GroundLists.{values_in}
 use Rattle.tableau_core.specs.Numbered.LiteralView.{the_literal}
-use Rattle.tableau_cert.proofs.WalkingLaws.{no-list}
+use Rattle.tableau_cert.proofs.BuildingLaws.{no-list}
 use Rattle.tableau_cert.proofs.building.nothing.Goals as goal
 
 pub returns : goal.returns

@@ -1,9 +1,9 @@
-use Rattle.std.proofs.Common.{arith, refl}
-use Rattle.tableau_cert.proofs.WalkingLaws.{root-spot}
+use Rattle.std.proofs.Common.{arith}
+use Rattle.calculus.specs.Instances.{root_spot}
 use Rattle.tableau_cert.proofs.gathering.root.Goals as goal
 
 pub returns-clause-root : goal.returns-clause-root
-returns-clause-root c ls h = λ i. record { sign = c.whole.ensures.sign i; formula = c.whole.ensures.formula i; spot = root-spot ls h i }
+returns-clause-root c ls = λ i. record { sign = c.whole.ensures.sign i; formula = c.whole.ensures.formula i; spot = root_spot }
 
-pub returns-clause-normal : goal.returns-clause-normal
-returns-clause-normal c ls h = let s = c.whole.ensures.small in record { spot = record { label = λ e. refl; taken = λ e. refl; env = λ e. refl }; fits = omega (arith, s) }
+pub returns-clause-fits : goal.returns-clause-fits
+returns-clause-fits c = let s = c.whole.ensures.small in omega (arith, s)

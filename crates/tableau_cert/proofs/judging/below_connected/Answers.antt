@@ -6,7 +6,7 @@ use Rattle.tableau_core.specs.Numbered.LiteralView.{the_literal}
 use Rattle.tableau_cert.specs.Gathering.{AreNormalLiterals, IsNormalLiteral}
 use Rattle.tableau_cert.specs.Judging.{goal_at, the_path}
 use Rattle.tableau_cert.proofs.JudgingLaws.{irregular, regular}
-use Rattle.tableau_cert.proofs.NormalLaws.{all-removed}
+use Rattle.tableau_cert.proofs.AllLaws.{all-removed}
 use Rattle.tableau_cert.proofs.judging.below_connected.Goals as goal
 
 pub returns-then-not-are_new-clause-closed : goal.returns-then-not-are_new-clause-closed
