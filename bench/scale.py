@@ -227,7 +227,7 @@ FAMILIES = [
     Family("budget", "A => A with n implications to the left, 1,000 steps",
            1, ["prove", "m.p", INTUITIONISTIC, "--steps=1000"], nested_left, ("leancop derivation", "steps ended")),
     Family("structure-terms", "a closed term of n symbols at n choices of elements",
-           1024, ["model", *JUDGED], closed_terms, "true at the root"),
+           1024, ["model", *JUDGED], closed_terms, "true at the root", is_known=False),
     Family("structure-room", "n symbols, and a structure of 64 worlds that is wrong at line 5",
            2000, ["model", *JUDGED, S4], many_symbols, "rejected structure at line 5: line", is_known=False),
     Family("tableau-values", "n pairs of quantifiers before both sides, the worth being also what is written",

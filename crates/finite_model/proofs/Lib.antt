@@ -7,6 +7,8 @@
 -- - *Truth.* `SeekLaws` and `TruthArms` lead from looking for a value, up to the first item that has it, to truth by steps (`told_at`);
 --   `FormulaArms` says what a formula of the program is at each form. `Outcomes.root-outcome` gives truth, cost and steps at the root,
 --   `outcome-refutes` and `outcome-never` that no derivation derives what is false there.
+-- - *Closed terms* become variables of elements, which stand behind those that are bound: `ShortLaws` says for each form of a formula that
+--   the one with such variables tells the same, and `root-told` that it does so at the root.
 -- - *Tables.* `ValueLaws.far-place`: a place past all numbers stays past each table. `TupleLaws.tuples-at`: the places of tuples stand in
 --   their order; `places-stay`: where one more element changes nothing, more change nothing, so a table of one element is gone through at
 --   once. `FunctionLaws` (`kept-on`, `kept-false`, `kept-end`) goes by these places from tuple to tuple, whether a function keeps a
@@ -25,6 +27,7 @@ pub mod ArgLaws
 pub mod EnvLaws
 pub mod FormulaArms
 pub mod TruthArms
+pub mod ShortLaws
 pub mod Outcomes
 pub mod NumberLaws
 pub mod RiseLaws

@@ -3,6 +3,7 @@ pub mod StructureView
 pub mod Codes
 -- truth
 pub mod Seeking
+pub mod Shortened
 pub mod Judging
 -- the text
 pub mod Items

@@ -12,6 +12,7 @@ mod judging;
 mod making;
 mod persistence;
 mod reader;
+mod shortening;
 mod sizes;
 mod slot;
 mod slots;
