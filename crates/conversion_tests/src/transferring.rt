@@ -4,15 +4,14 @@ ghost use Rattle.std.specs.Prelude.{◌≡◌, IfOk, IsTrue};
 ghost use Rattle.calculus.specs.Calculus.{Derives};
 ghost use Rattle.calculus.specs.DerivationText.{is_printable};
 ghost use Rattle.calculus.specs.Translation.{translated_problem};
+ghost use Rattle.calculus.specs.Versions.{stated};
 ghost use Rattle.calculus.specs.declared.setting.Logic.TheVariants.{Intuitionistic};
-ghost use Rattle.sequent_calc.specs.DerivationView.{the_derivation};
 
 use cop_base::NoMemory;
 use derivation_check::{Verdict, accept, check};
-use derivation_text::{Version, derivation_of, print};
+use derivation_text::{TextDerivation, Version, print};
 use godel_transfer::{transfer, translate};
 use logic_rules::{Domains, Logic, Problem};
-use sequent_calc::Derivation;
 use std::alloc::Global;
 use std::test::Fail;
 use test_problems::proving;
@@ -21,12 +20,11 @@ use test_problems::proving;
 // proved.
 
 // The derivation of the problem that the text is.
-fn derivation_from(alloc: Global, problem: &Problem, text: &[u8]) -> Result<Derivation, Fail>
-    ensures printable { IfOk result (λ d. IsTrue (is_printable problem.now (the_derivation d))) }
-    ensures derives { IfOk result (λ d. Derives problem.now (the_derivation d)) }
+fn derivation_from(alloc: Global, problem: &Problem, text: &[u8]) -> Result<TextDerivation, Fail>
+    ensures printable { IfOk result (λ d. IsTrue (is_printable problem.now (stated d))) }
+    ensures derives { IfOk result (λ d. Derives problem.now (stated d)) }
 {
-    let (_, accepted) = accept(alloc, problem, text)?;
-    let derivation = derivation_of(alloc, &accepted)?;
+    let (_, derivation) = accept(alloc, problem, text)?;
     Ok(derivation)
 }
 
@@ -44,12 +42,12 @@ fn text_in(
     alloc: Global,
     problem: &Problem,
     target: &Problem,
-    derivation: &Derivation,
+    derivation: &TextDerivation,
 ) -> Result<Vec<u8>, Fail>
     requires intuitionistic { problem.now.setting.logic ≡ Intuitionistic }
     requires target { target.now ≡ translated_problem problem.now }
-    requires printable { IsTrue (is_printable problem.now (the_derivation derivation.now)) }
-    requires derives { Derives problem.now (the_derivation derivation.now) }
+    requires printable { IsTrue (is_printable problem.now (stated derivation.now)) }
+    requires derives { Derives problem.now (stated derivation.now) }
 {
     let moved = transfer(alloc, problem, derivation)?;
     let text = print(alloc, target, &moved, Version::One)?;

@@ -65,7 +65,8 @@ fn arg_of(alloc: Global, d: &TextDerivation, term: NumberedTerm) -> Result<TermA
     }
 }
 
-fn step_of(alloc: Global, d: &TextDerivation, step: NumberedStep) -> Result<Step, NoMemory>
+/// A step of a derivation, as the calculus has it.
+pub fn step_of(alloc: Global, d: &TextDerivation, step: NumberedStep) -> Result<Step, NoMemory>
     requires { IsTrue (are_listed (length d.now.labels) (length d.now.terms) (the_numbered_step step)) }
     ensures { IfOk result (λ s. the_step s ≡ stated_step d.now.labels d.now.terms (the_numbered_step step)) }
 {

@@ -34,7 +34,7 @@ mod writer;
 
 pub use calculus::fault::TextCause;
 pub use calculus::version::Version;
-pub use conversion::derivation_of;
+pub use conversion::{derivation_of, step_of};
 pub use fault::ParseFault;
 pub use label_list::LabelList;
 pub use numbering::number;

@@ -9,6 +9,9 @@ ghost use Rattle.calculus.specs.DerivationText.{is_printable};
 ghost use Rattle.calculus.specs.Measures.{nesting, node_count};
 ghost use Rattle.calculus.specs.Problems.{is_problem};
 ghost use Rattle.calculus.specs.Translation.{translated_problem, translation_of};
+ghost use Rattle.calculus.specs.Versions.{stated, stated_step};
+ghost use Rattle.derivation_text.specs.Listed.{are_listed};
+ghost use Rattle.derivation_text.specs.NumbersView.{the_numbered_step};
 ghost use Rattle.godel_transfer.specs.declared.fault.TransferFault.TheVariants as fault;
 ghost use Rattle.formula_core.specs.FormulaView.{the_formula};
 ghost use Rattle.godel_transfer.specs.BranchView.{IsKept, branches_of, the_branch, the_entry};
@@ -29,6 +32,7 @@ use crate::numbers::next;
 use crate::steps::{put_axiom, put_use};
 use crate::using::{grow, label_after, pass_atom};
 use cop_base::NoMemory;
+use derivation_text::{NumberedStep, TextDerivation, step_of};
 use label_table::{Labels, label_at};
 use logic_rules::Problem;
 use sequent_calc::{Derivation, EigenList, Home, ModalArg, Step, TermArg};
@@ -218,15 +222,42 @@ fn take_next<'a>(
     Ok(())
 }
 
-fn transferred(alloc: Global, problem: &Problem, d: &Derivation) -> Result<Derivation, NoMemory>
-    ensures { IfOk result (λ r. the_derivation r ≡ sketched problem.now (the_derivation d.now)) }
+// The same of a step of a text. Its label and its term are written out for it alone.
+fn take_numbered<'a>(
+    alloc: Global,
+    d: &TextDerivation,
+    branches: &mut Branches<'a>,
+    out: &mut Derivation,
+    number: u32,
+    step: NumberedStep,
+) -> Result<(), NoMemory>
+    requires listed { IsTrue (are_listed (length d.now.labels) (length d.now.terms) (the_numbered_step step)) }
+    requires kept { IsKept branches.old }
+    ensures steps { (rest : List derivation.Step) → OnOk result (out.new.steps
+        ++ sketched_from (branches_of branches.new) (suc number) rest ≡ out.old.steps
+        ++ sketched_from (branches_of branches.old) number
+        (stated_step d.now.labels d.now.terms (the_numbered_step step) ∷ rest)) }
+    ensures names { (rest : List derivation.Step) → OnOk result (out.new.names.eigens
+        ++ names_sketched_from (branches_of branches.new) (suc number) rest
+        ≡ out.old.names.eigens ++ names_sketched_from (branches_of branches.old) number
+        (stated_step d.now.labels d.now.terms (the_numbered_step step) ∷ rest)) }
+    ensures others { OnOk result (IsSameButLists out.old out.new) }
+    ensures kept { OnOk result (IsKept branches.new) }
 {
-    let mut out = started(alloc, d.limit)?;
+    let written = step_of(alloc, d, step)?;
+    take_next(alloc, branches, out, number, &written)?;
+    Ok(())
+}
+
+fn transferred(alloc: Global, problem: &Problem, d: &TextDerivation) -> Result<Derivation, NoMemory>
+    ensures { IfOk result (λ r. the_derivation r ≡ sketched problem.now (stated d.now)) }
+{
+    let mut out = started(alloc, d.limit())?;
     let mut branches = Branches::new(alloc, problem.formula())?;
     let mut number = 0;
-    for step in d.steps.items() {
+    for step in d.steps() {
         number = next(number)?;
-        take_next(alloc, &mut branches, &mut out, number, step)?;
+        take_numbered(alloc, d, &mut branches, &mut out, number, *step)?;
     }
     Ok(out)
 }
@@ -235,18 +266,18 @@ fn transferred(alloc: Global, problem: &Problem, d: &Derivation) -> Result<Deriv
 fn transferred_within(
     alloc: Global,
     problem: &Problem,
-    d: &Derivation,
+    d: &TextDerivation,
 ) -> Result<Derivation, NoMemory>
     requires well { IsTrue (is_problem problem.now) }
     requires intuitionistic { problem.now.setting.logic ≡ Intuitionistic }
-    requires printable { IsTrue (is_printable problem.now (the_derivation d.now)) }
-    requires derives { Derives problem.now (the_derivation d.now) }
+    requires printable { IsTrue (is_printable problem.now (stated d.now)) }
+    requires derives { Derives problem.now (stated d.now) }
     ensures derives { IfOk result (λ r. Derives (translated_problem problem.now) (the_derivation r)) }
     ensures printable { IfOk result (λ r.
         IsTrue (is_printable (translated_problem problem.now) (the_derivation r))) }
     ensures limit { IfOk result (λ r. r.limit ≡ d.now.limit) }
 {
-    if d.steps.items().len() >= TOO_MANY {
+    if d.steps().len() >= TOO_MANY {
         return Err(NoMemory);
     }
     let out = transferred(alloc, problem, d)?;
@@ -258,11 +289,11 @@ fn transferred_within(
 pub fn transfer(
     alloc: Global,
     problem: &Problem,
-    d: &Derivation,
+    d: &TextDerivation,
 ) -> Result<Derivation, TransferFault>
     requires intuitionistic { problem.now.setting.logic ≡ Intuitionistic }
-    requires printable { IsTrue (is_printable problem.now (the_derivation d.now)) }
-    requires derives { Derives problem.now (the_derivation d.now) }
+    requires printable { IsTrue (is_printable problem.now (stated d.now)) }
+    requires derives { Derives problem.now (stated d.now) }
     ensures derives { IfOk result (λ r. Derives (translated_problem problem.now) (the_derivation r)) }
     ensures printable { IfOk result (λ r.
         IsTrue (is_printable (translated_problem problem.now) (the_derivation r))) }

@@ -1,13 +1,10 @@
 -- How translating a problem ends, and what is done with the translation.
-use Rattle.std.proofs.Common.{◌≡◌, ◌↔◌, ◌<◌, ◌≤◌, ℕ, List, Result, Ok, Err, inl, inr, ap, subst, sym, ◌∙◌}
+use Rattle.std.proofs.Common.{◌≡◌, ◌↔◌, ◌<◌, ◌≤◌, ℕ, List, Result, Ok, Err, inl, inr, ap, subst, ◌∙◌}
 use Rattle.std.proofs.lemmas.Bool.{cases_lt}
 use Rattle.calculus.specs.Measures.{nesting, node_count}
-use Rattle.calculus.specs.Derivations.{Derivation}
 use Rattle.calculus.specs.Syntax.{Problem, Setting}
 use Rattle.calculus.specs.Translation.{translated_problem, translation_of}
-use Rattle.calculus.specs.Versions.{IsTextIn, NumberedDerivation, stated}
 use Rattle.calculus.specs.declared.setting.Logic.TheVariants.{Intuitionistic}
-use Rattle.calculus.specs.declared.version.Version.{Version}
 use Rattle.godel_transfer.specs.declared.fault.TransferFault.{TransferFault}
 use Rattle.godel_transfer.specs.declared.fault.TransferFault.TheVariants as fault
 use Rattle.leancop_top.specs.Reading.{IsReadIn}
@@ -38,7 +35,3 @@ fits P x r e deep large =
 -- a problem that is read in intuitionistic logic is one of it
 pub intuitionistic : (s : Setting) (P : Problem) → s.logic ≡ Intuitionistic → IsReadIn s (Read P) → P.setting.logic ≡ Intuitionistic
 intuitionistic s P e h = ap (λ t. t.logic) h ∙ e
-
--- the derivation of the calculus that the numbers of a text state has this text
-pub given-text : (P : Problem) (bytes : List ℕ) (v : Version) (x : NumberedDerivation) (d : Derivation) → d ≡ stated x → IsTextIn v P (stated x) bytes → (w : Version) × IsTextIn w P d bytes
-given-text P bytes v x d same text = (v, subst (λ e. IsTextIn v P e bytes) (sym same) text)

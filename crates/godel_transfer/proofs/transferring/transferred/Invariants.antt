@@ -2,7 +2,8 @@ use Rattle.std.proofs.Common.{◌≡◌, ◌++◌, ◌∷◌, [], suc, drop, map
 use Rattle.godel_transfer.specs.BranchView.{IsKept, branches_of}
 use Rattle.godel_transfer.specs.Sketch.{first_sketch, names_sketched_from, sketched_from}
 use Rattle.godel_transfer.specs.Transfer.{spare_anywhere}
-use Rattle.sequent_calc.specs.StepView.{the_step}
+use Rattle.calculus.specs.Versions.{stated, stated_step}
+use Rattle.derivation_text.specs.NumbersView.{the_numbered_step}
 use Rattle.godel_transfer.proofs.transferring.transferred.Given as goal
 
 abbrev pub invariant-loop-step : goal.invariant-loop-step
@@ -10,6 +11,6 @@ invariant-loop-step l = record {
   kept : IsKept l.branches;
   limit : l.out.limit ≡ l.d.limit;
   spares : l.out.names.spares ≡ spare_anywhere ∷ [];
-  steps : l.out.steps ++ sketched_from (branches_of l.branches) (suc l.number) (map the_step (drop l.step-index l.step-items)) ≡ sketched_from (first_sketch l.problem.formula ∷ []) 1 l.d.steps;
-  names : l.out.names.eigens ++ names_sketched_from (branches_of l.branches) (suc l.number) (map the_step (drop l.step-index l.step-items)) ≡ names_sketched_from (first_sketch l.problem.formula ∷ []) 1 l.d.steps;
+  steps : l.out.steps ++ sketched_from (branches_of l.branches) (suc l.number) (map (stated_step l.d.labels l.d.terms) (map the_numbered_step (drop l.step-index l.step-items))) ≡ sketched_from (first_sketch l.problem.formula ∷ []) 1 (stated l.d).steps;
+  names : l.out.names.eigens ++ names_sketched_from (branches_of l.branches) (suc l.number) (map (stated_step l.d.labels l.d.terms) (map the_numbered_step (drop l.step-index l.step-items))) ≡ names_sketched_from (first_sketch l.problem.formula ∷ []) 1 (stated l.d).steps;
 }

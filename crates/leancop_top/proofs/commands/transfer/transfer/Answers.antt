@@ -7,7 +7,7 @@ use Rattle.leancop_top.proofs.commands.transfer.transfer.Goals as goal
 pub returns-in-Ok-clause-ends : goal.returns-in-Ok-clause-ends
 returns-in-Ok-clause-ends c = λ told name held.
     c.transfer_accepted.ensures.ends told name
-    (record { text = c.args.bytes.now; held = held; version = c.in-Ok.ensures.text.0; is_text = c.in-Ok.ensures.text.1; judged = c.in-Ok.ensures.accepted })
+    (record { text = c.args.bytes.now; held = held; version = _; is_text = c.in-Ok.ensures.text; judged = c.in-Ok.ensures.accepted })
 
 pub returns-in-Err-Rejected-clause-ends : goal.returns-in-Err-Rejected-clause-ends
 returns-in-Err-Rejected-clause-ends c = λ told name held.
