@@ -11,7 +11,7 @@ same 'bench/run.py that goes on' "$(run)" "$first"
 same 'the lines of its table' "$(wc -l <"$folder/table")" 4
 has 'bench/run.py in another logic' "$(run --logic=d)" '| leancop | 0, 0, 0 | 0 | 0 | 4 |'
 same 'the lines of its table with another logic' "$(wc -l <"$folder/table")" 8
-same 'bench/scale.py, the first size of each family' "$(bench/scale.py "--program=$LEANCOP" --sizes=1 | tail -n 1)" '18 families, 0 do not hold'
+same 'bench/scale.py, the first size of each family' "$(bench/scale.py "--program=$LEANCOP" --sizes=1 | tail -n 1)" "$(bench/scale.py --list | wc -l) families, 0 do not hold"
 bench/scale.py --family=none >/dev/null 2>&1
 same 'a family that bench/scale.py does not have' "$?" 1
 judge='from scale import FAMILIES, Point, faults_of
