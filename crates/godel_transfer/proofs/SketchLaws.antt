@@ -9,16 +9,17 @@ use Rattle.std.proofs.lemmas.Bool.{false≢true, cases_Bool, and_parts, or_parts
 use Rattle.plain_laws.proofs.Lists.{map-length}
 use Rattle.calculus.specs.declared.fault.StepFault.{StepFault}
 use Rattle.calculus.specs.declared.sign.Sign.{Sign}
-use Rattle.calculus.specs.declared.sign.Sign.TheVariants.{T, F}
 use Rattle.calculus.specs.declared.kind.Shape.{Shape}
 use Rattle.calculus.specs.declared.kind.Shape.TheVariants.{Alpha, Beta, Gamma, Delta, Literal}
 use Rattle.calculus.specs.declared.setting.Logic.TheVariants.{Intuitionistic}
 use Rattle.calculus.specs.declared.setting.Domains.TheVariants.{Cumulative}
-use Rattle.calculus.specs.Syntax.{Symbol, Term, Terms, no_terms, eigen, Formula, atom, neg, conj, disj, imp, all, ex, box, dia, setting_of, Problem}
+use Rattle.calculus.specs.Syntax.{Symbol, Terms, Formula, atom, neg, conj, disj, imp, all, ex, box, dia, setting_of, Problem}
 use Rattle.calculus.specs.Kinds.{Signed, signed, shape_of, modal_of, components}
-use Rattle.calculus.specs.Substitution.{formula_with, any_leaf_in}
+use Rattle.calculus.specs.Substitution.{any_leaf_in}
 use Rattle.calculus.specs.Derivations.{Mark, new_mark, spare_mark, Label, character_eq, Entry, Sequent, EigenName, Names, ModalArg, no_modal, to, by_new, TermArg, no_term, by_term, by_name, Step, apply_to, close, Derivation}
 use Rattle.calculus.specs.Calculus.{Children, closed, one, two, holds_character, is_in_home, character_occurs, modal_fits, term_fits, has_step, label_after, character_is_new, eigen_is_new, entry_at, with_argument, with_components, children_of, conditions_of_use, connects, entry_of, use_entry, close_branch, apply, Closes, leaf, single, fork, Derives}
+use Rattle.trim_theory.specs.Bare.{bare, bare_signed}
+use Rattle.trim_theory.proofs.BareLaws.{bare-argument, bare-components, bare-shape}
 use Rattle.godel_transfer.specs.Transfer.{CharacterImage, EigenImage, mark_image, label_image, term_image, OpenBranch, first_branch, place_of, has_two_steps, numbers_for, modal_image, argument_image, new_character, characters_after, eigens_after, use_steps, places_added, count_after, branch_after, branches_by, axiom_to, axiom_at, steps_at, name_at, names_by, names_at, names_for, steps_for, branches_at, branches_for, steps_from, names_from, names_with, transferred}
 use Rattle.godel_transfer.specs.Sketch.{label_then, atom_after, grown, sketches_by, sketches_at, sketches_for, sketched_axiom, sketched_for, names_sketched, names_sketched_at, names_sketched_for, sketched_from, names_sketched_from, first_sketch, sketched}
 use Rattle.calculus.proofs.SequentLaws.{are_met, met-children}
@@ -28,66 +29,9 @@ use Rattle.godel_transfer.proofs.TransferLaws.{outside-entry}
 
 -- ---- formulas without terms
 
-abbrev pub bare : Formula → Formula
-bare (atom p ts) = atom 0 no_terms
-bare (neg a) = neg (bare a)
-bare (conj a b) = conj (bare a) (bare b)
-bare (disj a b) = disj (bare a) (bare b)
-bare (imp a b) = imp (bare a) (bare b)
-bare (all a) = all (bare a)
-bare (ex a) = ex (bare a)
-bare (box a) = box (bare a)
-bare (dia a) = dia (bare a)
-
-abbrev pub bare_signed : Signed → Signed
-bare_signed x = signed x.sign (bare x.formula)
-
-bare-with : (t : Term) (d : ℕ) (a : Formula) → bare (formula_with t d a) ≡ bare a
-bare-with t d (atom p ts) = refl
-bare-with t d (neg a) = ap neg (bare-with t d a)
-bare-with t d (conj a b) = λ i. conj (bare-with t d a i) (bare-with t d b i)
-bare-with t d (disj a b) = λ i. disj (bare-with t d a i) (bare-with t d b i)
-bare-with t d (imp a b) = λ i. imp (bare-with t d a i) (bare-with t d b i)
-bare-with t d (all a) = ap all (bare-with t (suc d) a)
-bare-with t d (ex a) = ap ex (bare-with t (suc d) a)
-bare-with t d (box a) = ap box (bare-with t d a)
-bare-with t d (dia a) = ap dia (bare-with t d a)
-
-bare-argument : (t : TermArg) (x : Signed) → bare_signed (with_argument t x) ≡ bare_signed x
-bare-argument no_term x = refl
-bare-argument (by_term t) x = ap (signed x.sign) (bare-with t 0 x.formula)
-bare-argument (by_name n) x = ap (signed x.sign) (bare-with (eigen n) 0 x.formula)
-
 bare-arguments : (t : TermArg) (xs : List Signed) → map bare_signed (map (with_argument t) xs) ≡ map bare_signed xs
 bare-arguments t [] = refl
 bare-arguments t (x ∷ xs) = λ i. bare-argument t x i ∷ bare-arguments t xs i
-
-bare-components : (s : Sign) (a : Formula) → map bare_signed (components s a) ≡ components s (bare a)
-bare-components s (atom p ts) = refl
-bare-components s (neg a) = refl
-bare-components s (conj a b) = refl
-bare-components s (disj a b) = refl
-bare-components s (imp a b) = refl
-bare-components s (all a) = refl
-bare-components s (ex a) = refl
-bare-components s (box a) = refl
-bare-components s (dia a) = refl
-
-bare-shape : (s : Sign) (a : Formula) → shape_of s (bare a) ≡ shape_of s a
-bare-shape s (atom p ts) = refl
-bare-shape s (neg a) = refl
-bare-shape T (conj a b) = refl
-bare-shape F (conj a b) = refl
-bare-shape T (disj a b) = refl
-bare-shape F (disj a b) = refl
-bare-shape T (imp a b) = refl
-bare-shape F (imp a b) = refl
-bare-shape T (all a) = refl
-bare-shape F (all a) = refl
-bare-shape T (ex a) = refl
-bare-shape F (ex a) = refl
-bare-shape s (box a) = refl
-bare-shape s (dia a) = refl
 
 -- ---- what a step makes looks at the bare formula
 

@@ -52,7 +52,7 @@ bare-components s (ex a) = refl
 bare-components s (box a) = refl
 bare-components s (dia a) = refl
 
-bare-argument : (y : TermArg) (x : Signed) → bare_signed (with_argument y x) ≡ bare_signed x
+pub bare-argument : (y : TermArg) (x : Signed) → bare_signed (with_argument y x) ≡ bare_signed x
 bare-argument no_term x = refl
 bare-argument (by_term t) x = ap (λ f. signed x.sign f) (bare-with t 0 x.formula)
 bare-argument (by_name n) x = ap (λ f. signed x.sign f) (bare-with (eigen n) 0 x.formula)
