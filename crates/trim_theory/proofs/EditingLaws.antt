@@ -6,7 +6,7 @@ use Rattle.std.proofs.lemmas.Bool.{false≢true, and_parts, and_from, ltb-true, 
 use Rattle.std.proofs.lemmas.List.{append_assoc, append-nil, length-append}
 use Rattle.plain_laws.proofs.Options.{none_some, some_injective}
 use Rattle.calculus.specs.declared.setting.Logic.{Logic}
-use Rattle.calculus.specs.declared.setting.Logic.TheVariants.{Classical, Intuitionistic, D, T, S4, S5}
+use Rattle.calculus.specs.declared.setting.Logic.TheVariants.{Intuitionistic}
 use Rattle.calculus.specs.declared.kind.Shape.{Shape}
 use Rattle.calculus.specs.declared.kind.Shape.TheVariants.{Alpha, Beta, Gamma, Delta, Literal}
 use Rattle.calculus.specs.declared.kind.ModalPart.{ModalPart}
@@ -105,48 +105,17 @@ plain-added P names s added e x y plain h =
 
 -- sign and connectives tell whether a step can come in
 pub bare-modal : (l : Logic) (s : Sign) (f : Formula) → modal_of l s (bare f) ≡ modal_of l s f
-bare-modal Classical s (atom p ts) = refl
 bare-modal Intuitionistic s (atom p ts) = refl
-bare-modal D s (atom p ts) = refl
-bare-modal T s (atom p ts) = refl
-bare-modal S4 s (atom p ts) = refl
-bare-modal S5 s (atom p ts) = refl
-bare-modal Classical s (neg a) = refl
+bare-modal _ s (atom p ts) = refl
 bare-modal Intuitionistic s (neg a) = refl
-bare-modal D s (neg a) = refl
-bare-modal T s (neg a) = refl
-bare-modal S4 s (neg a) = refl
-bare-modal S5 s (neg a) = refl
-bare-modal Classical s (conj a b) = refl
-bare-modal Intuitionistic s (conj a b) = refl
-bare-modal D s (conj a b) = refl
-bare-modal T s (conj a b) = refl
-bare-modal S4 s (conj a b) = refl
-bare-modal S5 s (conj a b) = refl
-bare-modal Classical s (disj a b) = refl
-bare-modal Intuitionistic s (disj a b) = refl
-bare-modal D s (disj a b) = refl
-bare-modal T s (disj a b) = refl
-bare-modal S4 s (disj a b) = refl
-bare-modal S5 s (disj a b) = refl
-bare-modal Classical s (imp a b) = refl
+bare-modal _ s (neg a) = refl
+bare-modal l s (conj a b) = refl
+bare-modal l s (disj a b) = refl
 bare-modal Intuitionistic s (imp a b) = refl
-bare-modal D s (imp a b) = refl
-bare-modal T s (imp a b) = refl
-bare-modal S4 s (imp a b) = refl
-bare-modal S5 s (imp a b) = refl
-bare-modal Classical s (all a) = refl
+bare-modal _ s (imp a b) = refl
 bare-modal Intuitionistic s (all a) = refl
-bare-modal D s (all a) = refl
-bare-modal T s (all a) = refl
-bare-modal S4 s (all a) = refl
-bare-modal S5 s (all a) = refl
-bare-modal Classical s (ex a) = refl
-bare-modal Intuitionistic s (ex a) = refl
-bare-modal D s (ex a) = refl
-bare-modal T s (ex a) = refl
-bare-modal S4 s (ex a) = refl
-bare-modal S5 s (ex a) = refl
+bare-modal _ s (all a) = refl
+bare-modal l s (ex a) = refl
 bare-modal l s (box a) = refl
 bare-modal l s (dia a) = refl
 
