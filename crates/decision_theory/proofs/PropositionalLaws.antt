@@ -178,6 +178,17 @@ hit-tells has (l ∷ ls) (inr h) = or_right (has l) (list_any has ls) (hit-tells
 abbrev pub IsHitByTest : (GroundLiteral → Bool) → Pick → Type 0
 IsHitByTest has x = IsTrue (list_any has x.literals)
 
+-- where one list has no such literal, the other one has it
+pub in_other_part : (has : GroundLiteral → Bool) (ls ms : List GroundLiteral) → IsTrue (list_any has (ls ++ ms)) → list_any has ls ≡ false → IsTrue (list_any has ms)
+in_other_part has [] ms k f = k
+in_other_part has (l ∷ ls) ms k f = let g = or_parts (has l) (list_any has ls) f in in_other_part has ls ms (later (has l) (list_any has (ls ++ ms)) k g.0) g.1
+  where
+    later : (a b : Bool) → IsTrue (a || b) → a ≡ false → IsTrue b
+    later a b k f = elim (or_cases a b k) [
+      | inl e ↦ absurd (both_ways a f e)
+      | inr e ↦ e
+    ]
+
 -- where each pair of both is hit, one side is hit everywhere
 one_side : (has : GroundLiteral → Bool) (xs ys : List Pick) → AllByRecursion (IsHitByTest has) (both xs ys) → AllByRecursion (IsHitByTest has) xs ⊎ AllByRecursion (IsHitByTest has) ys
 one_side has [] ys h = inl tt
@@ -191,19 +202,9 @@ one_side has (x ∷ xs) ys h =
       | inr f ↦ inr (others ys parts.0 f)
     ]
   where
-    later : (a b : Bool) → IsTrue (a || b) → a ≡ false → IsTrue b
-    later a b k f = elim (or_cases a b k) [
-      | inl e ↦ absurd (both_ways a f e)
-      | inr e ↦ e
-    ]
-
-    other_part : (ls ms : List GroundLiteral) → IsTrue (list_any has (ls ++ ms)) → list_any has ls ≡ false → IsTrue (list_any has ms)
-    other_part [] ms k f = k
-    other_part (l ∷ ls) ms k f = let g = or_parts (has l) (list_any has ls) f in other_part ls ms (later (has l) (list_any has (ls ++ ms)) k g.0) g.1
-
     others : (zs : List Pick) → AllByRecursion (IsHitByTest has) (map (beside x) zs) → list_any has x.literals ≡ false → AllByRecursion (IsHitByTest has) zs
     others [] k f = tt
-    others (z ∷ zs) k f = (other_part x.literals z.literals k.0 f, others zs k.1 f)
+    others (z ∷ zs) k f = (in_other_part has x.literals z.literals k.0 f, others zs k.1 f)
 
 two_sides : (has : GroundLiteral → Bool) (xs ys : List Pick) → AllByRecursion (IsHitByTest has) (either xs ys) → AllByRecursion (IsHitByTest has) xs × AllByRecursion (IsHitByTest has) ys
 two_sides has xs ys h =

@@ -2,7 +2,7 @@
 -- or a way through them makes the formula false where the quantifiers range over the list.
 use Rattle.std.proofs.Common.{◌≡◌, ◌⊎◌, ℕ, suc, List, [], ◌∷◌, ◌++◌, map, Bool, false, not, ◌&&◌, ◌||◌, ◌==◌, IsTrue, refl, sym, ap, subst, inl, inr}
 use Rattle.std.specs.List.{AllByRecursion, list_all, list_any, flat_map}
-use Rattle.std.proofs.lemmas.Bool.{and_from, and_left, and_right, or_left, or_right, or_from, or_cases, or_parts, cases_Bool, not_from_true, not_from_false, false_from_ne_true, both_ways}
+use Rattle.std.proofs.lemmas.Bool.{and_from, and_left, and_right, or_left, or_right, or_from, cases_Bool, not_from_true, not_from_false, false_from_ne_true}
 use Rattle.plain_laws.proofs.Every.{each-parts, all-append, each-append, each-always}
 use Rattle.calculus.specs.declared.sign.Sign.{Sign}
 use Rattle.calculus.specs.declared.sign.Sign.TheVariants.{T, F}
@@ -22,7 +22,7 @@ use Rattle.calculus.proofs.Members.{Among}
 use Rattle.calculus.proofs.WalkLaws.{Hits}
 use Rattle.matrix_theory.specs.Spanning.{has_way}
 use Rattle.matrix_theory.proofs.WayLaws.{way_from}
-use Rattle.decision_theory.proofs.PropositionalLaws.{all_mapped, all_before, hit-tells, Apart, one_hit}
+use Rattle.decision_theory.proofs.PropositionalLaws.{all_mapped, all_before, hit-tells, in_other_part, Apart, one_hit}
 use Rattle.decision_theory.specs.Atoms.{atom_count}
 use Rattle.decision_theory.proofs.AtomLaws.{closed_where_spanning_within}
 use Rattle.decision_theory.specs.Ranging.{pairs, only_at, left_at, right_at, both_at, term_at, in_term, eigen_at, in_eigen, either_at, shares, truth_over, instances_over}
@@ -143,19 +143,9 @@ one_side has c (x ∷ xs) ys h =
       | inr f ↦ inr (others ys parts.0 f)
     ]
   where
-    later : (a b : Bool) → IsTrue (a || b) → a ≡ false → IsTrue b
-    later a b k f = elim (or_cases a b k) [
-      | inl e ↦ absurd (both_ways a f e)
-      | inr e ↦ e
-    ]
-
-    other_part : (ls ms : List GroundLiteral) → IsTrue (list_any has (ls ++ ms)) → list_any has ls ≡ false → IsTrue (list_any has ms)
-    other_part [] ms k f = k
-    other_part (l ∷ ls) ms k f = let g = or_parts (has l) (list_any has ls) f in other_part ls ms (later (has l) (list_any has (ls ++ ms)) k g.0) g.1
-
     others : (zs : List Share) → AllByRecursion (IsHitShare has) (map (both_at c x) zs) → list_any has x.literals ≡ false → AllByRecursion (IsHitShare has) zs
     others [] k f = tt
-    others (z ∷ zs) k f = (other_part x.literals z.literals k.0 f, others zs k.1 f)
+    others (z ∷ zs) k f = (in_other_part has x.literals z.literals k.0 f, others zs k.1 f)
 
 two_sides : (has : GroundLiteral → Bool) (c : Spot) (xs ys : List Share) → AllByRecursion (IsHitShare has) (either_at c xs ys) → AllByRecursion (IsHitShare has) xs × AllByRecursion (IsHitShare has) ys
 two_sides has c xs ys h =
