@@ -124,27 +124,21 @@ folded-allows K f Constant h w e = refl
 folded-allows K f Cumulative h w e = folded-prefix K f h w e
 folded-allows K f Varying h w e = (label_eq-tells (folded K f [] h) (folded K f [] w)).1 (ap (folded K f []) ((label_eq-tells h w).0 e))
 
+-- what holds in both logics of unbounded strings
+by_unbounded : (Q : Logic → Type 0) → Q Intuitionistic → Q S4 → (l : Logic) → has_unbounded_strings l ≡ true → Q l
+by_unbounded Q a b Intuitionistic h = a
+by_unbounded Q a b S4 h = b
+by_unbounded Q a b Classical h = absurd (false≢true h)
+by_unbounded Q a b D h = absurd (false≢true h)
+by_unbounded Q a b LogicT h = absurd (false≢true h)
+by_unbounded Q a b S5 h = absurd (false≢true h)
+
 -- each string is a step in these logics
 pub always-step : (l : Logic) → has_unbounded_strings l ≡ true → (u v : List GroundMark) → IsTrue (steps_to mark_eq l u (nu_label l u v))
-always-step Intuitionistic h u v = prefix-more u v
-always-step S4 h u v = prefix-more u v
-always-step Classical h u v = absurd (false≢true h)
-always-step D h u v = absurd (false≢true h)
-always-step LogicT h u v = absurd (false≢true h)
-always-step S5 h u v = absurd (false≢true h)
+always-step l h u v = by_unbounded (λ l. IsTrue (steps_to mark_eq l u (nu_label l u v))) (prefix-more u v) (prefix-more u v) l h
 
 pub goes-on : {C : Type 0} (l : Logic) → has_unbounded_strings l ≡ true → (u v : List C) → nu_label l u v ≡ u ++ v
-goes-on Intuitionistic h u v = refl
-goes-on S4 h u v = refl
-goes-on Classical h u v = absurd (false≢true h)
-goes-on D h u v = absurd (false≢true h)
-goes-on LogicT h u v = absurd (false≢true h)
-goes-on S5 h u v = absurd (false≢true h)
+goes-on l h u v = by_unbounded (λ l. nu_label l u v ≡ u ++ v) refl refl l h
 
 pub pi-goes_on : {C : Type 0} (l : Logic) → has_unbounded_strings l ≡ true → (u : List C) (c : C) → pi_label l u c ≡ u ++ c ∷ []
-pi-goes_on Intuitionistic h u c = refl
-pi-goes_on S4 h u c = refl
-pi-goes_on Classical h u c = absurd (false≢true h)
-pi-goes_on D h u c = absurd (false≢true h)
-pi-goes_on LogicT h u c = absurd (false≢true h)
-pi-goes_on S5 h u c = absurd (false≢true h)
+pi-goes_on l h u c = by_unbounded (λ l. pi_label l u c ≡ u ++ c ∷ []) refl refl l h
