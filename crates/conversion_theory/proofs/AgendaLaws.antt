@@ -192,20 +192,6 @@ earlier Before never agenda h i j x y e f b = elim (cases_eq i j) [
 
 -- ---- what the order gives
 
--- the end of a list that ends in x is x
-pub end_same : (ns ms : List Node) (n m : Node) → ns ++ n ∷ [] ≡ ms ++ m ∷ [] → (ns ≡ ms) × (n ≡ m)
-end_same [] [] n m e = (refl, cc)
-end_same [] (y ∷ []) n m e = absurd (let q : [] ≡ m ∷ [] = cc in cc)
-end_same [] (y ∷ z ∷ ms) n m e = absurd (let q : [] ≡ z ∷ (ms ++ m ∷ []) = cc in cc)
-end_same (x ∷ []) [] n m e = absurd (let q : n ∷ [] ≡ [] = cc in cc)
-end_same (x ∷ z ∷ ns) [] n m e = absurd (let q : z ∷ (ns ++ n ∷ []) ≡ [] = cc in cc)
-end_same (x ∷ ns) (y ∷ ms) n m e =
-    let tail : ns ++ n ∷ [] ≡ ms ++ m ∷ [] = cc in
-    let head : x ≡ y = cc in
-    let r = end_same ns ms n m tail in
-    let q = r.0 in
-    (cc, r.1)
-
 -- where a turn works
 pub takes-position : (G : GammaUse → Type 0) (h : Shape) (d : Spot) (x : Turn) → Takes G h d x → x.position ≡ d.position
 takes-position G h d x (nothing_more e) = refl

@@ -23,7 +23,8 @@ use Rattle.calculus.proofs.SpotLaws.{LeadsTo, LeadsTo-append, label-LeadsTo, fit
 use Rattle.calculus.proofs.InstanceLaws.{is_step-label}
 use Rattle.conversion_theory.proofs.HitLaws.{Moves, plain, by_string, by_character}
 use Rattle.conversion_theory.proofs.PlaceLaws.{moves-position, Stood, Turned, turned, env_along, Takes, nothing_more, one_term, Parent, Work}
-use Rattle.conversion_theory.proofs.AgendaLaws.{TurnOf, Anything, turn-works, LeadsTo-same, end_same, takes-position, own-values, work-values, last_but_one-two, work-position, work-way, stood-way}
+use Rattle.plain_laws.proofs.Lists.{same-last}
+use Rattle.conversion_theory.proofs.AgendaLaws.{TurnOf, Anything, turn-works, LeadsTo-same, takes-position, own-values, work-values, last_but_one-two, work-position, work-way, stood-way}
 use Rattle.conversion_theory.proofs.NameLaws.{introduced-mark, mentioned-value}
 use Rattle.conversion_theory.proofs.NumberedLaws.{MarksIn, marks-of-string}
 
@@ -38,7 +39,7 @@ pub record SameSpot (before before' : List Node) (c c' : Spot) (s s' : Sign) (f 
 pub same-spot : (P : Problem) (before before' : List Node) (c c' : Spot) (s s' : Sign) (f f' : Formula) → Stood P before c s f → Stood P before' c' s' f' → c.position ≡ c'.position → c.taken ≡ c'.taken → SameSpot before before' c c' s s' f f'
 same-spot P before before' c c' s s' f f' h g p v =
     let l = P.setting.logic in
-    let ways = end_same before before' (node c.position s f) (node c'.position s' f') (sym (stood-way P before c s f h) ∙ ap (way_to P) p ∙ stood-way P before' c' s' f' g) in
+    let ways = same-last before before' (node c.position s f) (node c'.position s' f') (sym (stood-way P before c s f h) ∙ ap (way_to P) p ∙ stood-way P before' c' s' f' g) in
     let there : LeadsTo l before (at_root (c.taken ++ [])) (reached_at c' []) = subst (λ vs. LeadsTo l before (at_root (vs ++ [])) (reached_at c' [])) (sym v) (subst (λ ns. LeadsTo l ns (at_root (c'.taken ++ [])) (reached_at c' [])) (sym ways.0) (g.stands.comes [])) in
     let reached = LeadsTo-same l before (at_root (c.taken ++ [])) (reached_at c []) (reached_at c' []) (h.stands.comes []) there in
     let labels : c.label ≡ c'.label = ap (λ (x : Reached). x.label) reached in
@@ -168,7 +169,7 @@ label-marks P t x h = turn-marks P t (suc x.position) x (omega arith) h
 pub work-from : (P : Problem) (T : Turn → Type 0) (G : GammaUse → Type 0) (V : Value → Type 0) (x : Turn) (w : Work P T G V x) (before : List Node) (c : Spot) (s : Sign) (f : Formula) → Stood P before c s f → x.position ≡ c.position → (own : List Value) → x.values ≡ c.taken ++ own → SameSpot before w.before c w.from s w.sign f w.formula
 work-from P T G V x w before c s f h p own v =
     let l = P.setting.logic in
-    let ways = end_same before w.before (node c.position s f) (node w.from.position w.sign w.formula) (sym (stood-way P before c s f h) ∙ ap (way_to P) (sym p) ∙ work-way P T G V x w) in
+    let ways = same-last before w.before (node c.position s f) (node w.from.position w.sign w.formula) (sym (stood-way P before c s f h) ∙ ap (way_to P) (sym p) ∙ work-way P T G V x w) in
     let vs = work-values P T G V x w in
     let here : LeadsTo l before (at_root x.values) (reached_at c own) = subst (λ us. LeadsTo l before (at_root us) (reached_at c own)) (sym v) (h.stands.comes own) in
     let there : LeadsTo l before (at_root x.values) (reached_at w.from vs.0) = subst (λ ns. LeadsTo l ns (at_root x.values) (reached_at w.from vs.0)) (sym ways.0) (subst (λ us. LeadsTo l w.before (at_root us) (reached_at w.from vs.0)) (sym vs.1) (w.stood.stands.comes vs.0)) in
@@ -180,18 +181,6 @@ pub takes-cases : (G : GammaUse → Type 0) (h : _) (d : Spot) (x : Turn) → Ta
 takes-cases G h d x (nothing_more e) = inl (e, refl)
 takes-cases G h d x (one_term t e g) = inr (t, e, refl)
 
-values_end : (xs ys : List Value) (x y : Value) → xs ++ x ∷ [] ≡ ys ++ y ∷ [] → xs ≡ ys
-values_end [] [] x y e = refl
-values_end [] (z ∷ []) x y e = absurd (let q : [] ≡ y ∷ [] = cc in cc)
-values_end [] (z ∷ u ∷ ys) x y e = absurd (let q : [] ≡ u ∷ (ys ++ y ∷ []) = cc in cc)
-values_end (z ∷ []) [] x y e = absurd (let q : x ∷ [] ≡ [] = cc in cc)
-values_end (z ∷ u ∷ xs) [] x y e = absurd (let q : u ∷ (xs ++ x ∷ []) ≡ [] = cc in cc)
-values_end (z ∷ xs) (u ∷ ys) x y e =
-    let tail : xs ++ x ∷ [] ≡ ys ++ y ∷ [] = cc in
-    let head : z ≡ u = cc in
-    let r = values_end xs ys x y tail in
-    cc
-
 taken-same : (G H : GammaUse → Type 0) (h : _) (d e : Spot) (x : Turn) → Takes G h d x → Takes H h e x → d.taken ≡ e.taken
 taken-same G H h d e x k j = elim (takes-cases G h d x k) [
   | inl p ↦ elim (takes-cases H h e x j) [
@@ -200,7 +189,7 @@ taken-same G H h d e x k j = elim (takes-cases G h d x k) [
   ]
   | inr p ↦ elim (takes-cases H h e x j) [
     | inl q ↦ absurd (false≢true (sym q.0 ∙ ap is_gamma p.1))
-    | inr q ↦ values_end d.taken e.taken (term p.0) (term q.0) (sym p.2 ∙ q.2)
+    | inr q ↦ (same-last d.taken e.taken (term p.0) (term q.0) (sym p.2 ∙ q.2)).0
   ]
 ]
 
