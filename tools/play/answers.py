@@ -10,6 +10,7 @@ import threading
 import time
 from collections.abc import Callable
 from dataclasses import dataclass, replace
+from functools import partial
 from pathlib import Path
 
 import formulas
@@ -25,6 +26,15 @@ SETTINGS = [("classical", ""), ("intuitionistic", "")] + [(m, d) for m in MODAL 
 LONGEST_TEXT = 200_000  # characters of a field of the page
 OTHER_LANGUAGE = ["A qmf item is of a modal logic: pick D, T, S4 or S5.", "Items fof and cnf are of classical or intuitionistic logic: pick one of them."]
 FIRST_STEPS, MORE = 20_000, 8  # budgets of the search, one after the other: what is searched whole is known when the time is over
+
+
+def side_by_side(works: list[Callable[[], None]]) -> None:
+    """Runs these in threads of their own, until all have ended."""
+    threads = [threading.Thread(target=work, daemon=True) for work in works]
+    for thread in threads:
+        thread.start()
+    for thread in threads:
+        thread.join()
 
 
 def words_of(logic: str, domains: str) -> list[str]:
@@ -157,11 +167,7 @@ class Work:
                     run.stop()
 
         looks = [self.prove, self.refute] if "leancop-refute" in self.tools.here else [self.prove]
-        threads = [threading.Thread(target=search, args=(look,), daemon=True) for look in looks]
-        for thread in threads:
-            thread.start()
-        for thread in threads:
-            thread.join()
+        side_by_side([partial(search, look) for look in looks])
         if results:
             return results[0]
         if refusals:
@@ -306,11 +312,7 @@ def table(job: Job, question: Question) -> None:
             except Exception as fault:  # noqa: BLE001  it is raised again below
                 faults.append(fault)
 
-    workers = [threading.Thread(target=worker, daemon=True) for _ in range(2)]
-    for thread in workers:
-        thread.start()
-    for thread in workers:
-        thread.join()
+    side_by_side([worker, worker])
     if faults:
         raise faults[0]
 
