@@ -111,25 +111,11 @@ character-bare b (dia a) = refl
 
 sketches-bare : (k : OpenBranch) (i p : ℕ) (e : Entry) (m : ModalArg) (t : TermArg) (a : Formula) → sketches_by k i p e m t a ≡ sketches_by k i p e m t (bare a)
 sketches-bare k i p e m t (atom r ts) = refl
-sketches-bare k i p e m t (neg a) = refl
-sketches-bare k i p e m t (conj a c) = refl
-sketches-bare k i p e m t (disj a c) = refl
-sketches-bare k i p e m t (imp a c) = refl
-sketches-bare k i p e m t (all a) = refl
-sketches-bare k i p e m t (ex a) = refl
-sketches-bare k i p e m t (box a) = refl
-sketches-bare k i p e m t (dia a) = refl
+sketches-bare k i p e m t _ = refl
 
 names-bare : (k : OpenBranch) (i : ℕ) (e : Entry) (m : ModalArg) (t : TermArg) (a : Formula) → names_sketched k i e m t a ≡ names_sketched k i e m t (bare a)
 names-bare k i e m t (atom r ts) = refl
-names-bare k i e m t (neg a) = refl
-names-bare k i e m t (conj a c) = refl
-names-bare k i e m t (disj a c) = refl
-names-bare k i e m t (imp a c) = refl
-names-bare k i e m t (all a) = refl
-names-bare k i e m t (ex a) = refl
-names-bare k i e m t (box a) = refl
-names-bare k i e m t (dia a) = refl
+names-bare k i e m t _ = refl
 
 -- ---- what is the same of a branch and its sketch
 

@@ -26,31 +26,14 @@ bare-with t d (dia a) = ap dia (bare-with t d a)
 
 -- the shape of a formula without terms is its own
 pub bare-shape : (s : Sign) (f : Formula) → shape_of s (bare f) ≡ shape_of s f
-bare-shape s (atom p ts) = refl
-bare-shape s (neg a) = refl
-bare-shape T (conj a b) = refl
-bare-shape F (conj a b) = refl
-bare-shape T (disj a b) = refl
-bare-shape F (disj a b) = refl
-bare-shape T (imp a b) = refl
-bare-shape F (imp a b) = refl
-bare-shape T (all a) = refl
-bare-shape F (all a) = refl
-bare-shape T (ex a) = refl
-bare-shape F (ex a) = refl
-bare-shape s (box a) = refl
-bare-shape s (dia a) = refl
+bare-shape T (atom p ts) = refl
+bare-shape F (atom p ts) = refl
+bare-shape T _ = refl
+bare-shape F _ = refl
 
 pub bare-components : (s : Sign) (f : Formula) → map bare_signed (components s f) ≡ components s (bare f)
 bare-components s (atom p ts) = refl
-bare-components s (neg a) = refl
-bare-components s (conj a b) = refl
-bare-components s (disj a b) = refl
-bare-components s (imp a b) = refl
-bare-components s (all a) = refl
-bare-components s (ex a) = refl
-bare-components s (box a) = refl
-bare-components s (dia a) = refl
+bare-components s _ = refl
 
 pub bare-argument : (y : TermArg) (x : Signed) → bare_signed (with_argument y x) ≡ bare_signed x
 bare-argument no_term x = refl

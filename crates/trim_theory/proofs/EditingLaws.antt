@@ -12,7 +12,7 @@ use Rattle.calculus.specs.declared.kind.Shape.TheVariants.{Alpha, Beta, Gamma, D
 use Rattle.calculus.specs.declared.kind.ModalPart.{ModalPart}
 use Rattle.calculus.specs.declared.kind.ModalPart.TheVariants.{Plain, Nu, Pi}
 use Rattle.calculus.specs.declared.sign.Sign.{Sign}
-use Rattle.calculus.specs.Syntax.{Symbol, Formula, atom, neg, conj, disj, imp, all, ex, box, dia, Problem}
+use Rattle.calculus.specs.Syntax.{Symbol, Formula, box, Problem}
 use Rattle.calculus.specs.Kinds.{Signed, shape_of, modal_of, components}
 use Rattle.calculus.specs.Derivations.{Entry, Sequent, Names, ModalArg, no_modal, to, by_new, TermArg, no_term, by_term, by_name, Step, apply_to, close, first_sequent, axiom_count}
 use Rattle.calculus.specs.Calculus.{one, two, apply, Closes, leaf, single, fork, conditions_of_use, children_of, with_components, with_argument, entry_at, entry_of, use_entry, label_after, modal_fits, term_fits, has_step}
@@ -105,19 +105,10 @@ plain-added P names s added e x y plain h =
 
 -- sign and connectives tell whether a step can come in
 pub bare-modal : (l : Logic) (s : Sign) (f : Formula) → modal_of l s (bare f) ≡ modal_of l s f
-bare-modal Intuitionistic s (atom p ts) = refl
-bare-modal _ s (atom p ts) = refl
-bare-modal Intuitionistic s (neg a) = refl
-bare-modal _ s (neg a) = refl
-bare-modal l s (conj a b) = refl
-bare-modal l s (disj a b) = refl
-bare-modal Intuitionistic s (imp a b) = refl
-bare-modal _ s (imp a b) = refl
-bare-modal Intuitionistic s (all a) = refl
-bare-modal _ s (all a) = refl
-bare-modal l s (ex a) = refl
-bare-modal l s (box a) = refl
-bare-modal l s (dia a) = refl
+bare-modal Intuitionistic s (box a) = refl
+bare-modal Intuitionistic s _ = refl
+bare-modal _ s (box a) = refl
+bare-modal _ s _ = refl
 
 can-insert : (l : Logic) (r : Sequent) (n : ℕ) → can_insert l (bare_entry (map bare_of r) n) ≡ true → (e : Entry) × (entry_of r n ≡ Some e) × IsPlainAlpha l e
 can-insert l r n h = go (bare_entry (map bare_of r) n) refl h
