@@ -12,22 +12,10 @@ use Rattle.derivation_theory.proofs.Meanings.{Meaning, Says, says_atom, says_neg
 
 -- the logic's modal part is that of the connective
 pub same-modal : (l : Logic) (s : Sign) (r : Meaning) {d : ℕ} {env : List GroundTerm} {f g : Formula} → Says r d env f g → modal_of l s f ≡ modal_of l s g
-same-modal Intuitionistic s r (says_atom h) = refl
-same-modal _ s r (says_atom h) = refl
-same-modal Intuitionistic s r (says_neg h) = refl
-same-modal _ s r (says_neg h) = refl
-same-modal Intuitionistic s r (says_conj h k) = refl
-same-modal _ s r (says_conj h k) = refl
-same-modal Intuitionistic s r (says_disj h k) = refl
-same-modal _ s r (says_disj h k) = refl
-same-modal Intuitionistic s r (says_imp h k) = refl
-same-modal _ s r (says_imp h k) = refl
-same-modal Intuitionistic s r (says_all h) = refl
-same-modal _ s r (says_all h) = refl
-same-modal Intuitionistic s r (says_ex h) = refl
-same-modal _ s r (says_ex h) = refl
-same-modal l s r (says_box h) = refl
-same-modal l s r (says_dia h) = refl
+same-modal Intuitionistic s r (says_box h) = refl
+same-modal Intuitionistic s r _ = refl
+same-modal _ s r (says_box h) = refl
+same-modal _ s r _ = refl
 
 pub data Kind (r : Meaning) (env : List GroundTerm) (s : Sign) (f g : Formula) : Type 0 where
   literal_kind : (p : ℕ) (us : Terms) → g ≡ atom p us → shape_of s f ≡ Literal → shape_of s g ≡ Literal → components s g ≡ signed s g ∷ [] → Kind r env s f g
