@@ -1,7 +1,7 @@
 -- Sorted by the depth of their values, then by how many these are, then by position, the turns of a tableau are an agenda; and names
 -- sorted by the depth of what is inside them are a numbering. A depth is no larger than the number of different lists, where a size
 -- doubles with each list that stands in another twice.
-use Rattle.std.proofs.Common.{◌≡◌, ◌⊎◌, ◌↔◌, ℕ, max, ◌+◌, ◌<◌, ◌≤◌, List, length, length-append, Contains, Some, ap, inl, inr, slice_get, arith}
+use Rattle.std.proofs.Common.{◌≡◌, ◌⊎◌, ◌↔◌, ℕ, ◌<◌, List, length, length-append, Contains, Some, ap, inl, inr, slice_get, arith}
 use Rattle.std.proofs.lemmas.Bool.{cases_eq}
 use Rattle.calculus.specs.Syntax.{Problem}
 use Rattle.calculus.specs.Instances.{Turn}

@@ -1,7 +1,7 @@
 -- A name is deeper than the names inside it, and so are the values of a turn than the names that it mentions.
-use Rattle.std.proofs.Common.{◌≡◌, ℕ, suc, max, ◌<◌, ◌≤◌, List, [], ◌∷◌, ◌++◌, flat_map, refl, sym, ◌∙◌, ap, subst, inl, inr, arith}
+use Rattle.std.proofs.Common.{◌≡◌, ℕ, suc, max, ◌<◌, ◌≤◌, List, [], ◌∷◌, ◌++◌, flat_map, ap, subst, inl, inr, arith}
 use Rattle.calculus.specs.Syntax.{Problem}
-use Rattle.calculus.specs.Ground.{GroundTerm, GroundTerms, GroundMark, Marks, Value, Values, g_fun, g_eigen, common, own, no_g_terms, more_g_terms, g_new_mark, g_spare_mark, no_marks, more_marks, term, steps, no_values, more_values, marks_list, values_list, values_tree}
+use Rattle.calculus.specs.Ground.{GroundTerm, GroundTerms, GroundMark, Marks, Value, Values, g_fun, g_eigen, common, own, no_g_terms, more_g_terms, g_new_mark, g_spare_mark, no_marks, more_marks, term, steps, no_values, more_values, marks_list, values_list}
 use Rattle.calculus.specs.Lists.{values_tree-values_list}
 use Rattle.calculus.specs.Skolem.{label_of}
 use Rattle.calculus.specs.Instances.{Turn}

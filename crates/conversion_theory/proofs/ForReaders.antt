@@ -4,8 +4,8 @@
 use Rattle.std.proofs.Common.{◌≡◌, ◌⊎◌, ℕ, suc, ◌+◌, ◌<◌, ◌≤◌, arith, length, length-append, lt-ltb, ltb-true, List, [], ◌∷◌, ◌++◌, Bool, true, false, not, ◌&&◌, ◌==◌, IsTrue, Some, refl, sym, ◌∙◌, ap, subst, inl, inr, slice_get, append_assoc, append-nil}
 use Rattle.std.proofs.lemmas.Bool.{false≢true, cases_Bool, and_parts, and_from, eqb-true}
 use Rattle.calculus.specs.declared.sign.Sign.{Sign}
-use Rattle.calculus.specs.declared.sign.Sign.TheVariants.{T, F}
-use Rattle.calculus.specs.Syntax.{Formula, all, Problem}
+use Rattle.calculus.specs.declared.sign.Sign.TheVariants.{F}
+use Rattle.calculus.specs.Syntax.{Formula, Problem}
 use Rattle.calculus.specs.Ground.{Value}
 use Rattle.calculus.specs.Equality.{list_eq, value_eq}
 use Rattle.calculus.specs.Kinds.{shape_of, modal_of}

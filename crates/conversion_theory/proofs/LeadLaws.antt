@@ -1,5 +1,5 @@
 -- A conversion that its tableau leads, as it runs: each open branch has its task. One law for each thing that the run does.
-use Rattle.std.proofs.Common.{◌≡◌, ◌⊎◌, ℕ, suc, ◌+◌, List, [], ◌∷◌, ◌++◌, map, length, true, IsTrue, Some, refl, sym, ◌∙◌, ap, subst, inl, inr, slice_get}
+use Rattle.std.proofs.Common.{◌≡◌, ◌⊎◌, ℕ, suc, List, [], ◌∷◌, ◌++◌, map, length, true, IsTrue, Some, refl, sym, ◌∙◌, ap, subst, inl, inr, slice_get}
 use Rattle.std.specs.List.{AllByRecursion}
 use Rattle.calculus.specs.declared.sign.Sign.TheVariants.{F}
 use Rattle.calculus.specs.Syntax.{Problem}

@@ -18,50 +18,21 @@ use Rattle.conversion_theory.specs.Numbering.{numbered_term, numbered_terms, var
 -- ---- kinds and components
 
 pub shape_by : (num : Name → ℕ) (env : List GroundTerm) (s : Sign) (f : Formula) → shape_of s (formula_by num 0 env f) ≡ shape_of s f
-shape_by num env s (atom p ts) = refl
-shape_by num env s (neg a) = refl
-shape_by num env T (conj a b) = refl
-shape_by num env F (conj a b) = refl
-shape_by num env T (disj a b) = refl
-shape_by num env F (disj a b) = refl
-shape_by num env T (imp a b) = refl
-shape_by num env F (imp a b) = refl
-shape_by num env T (all a) = refl
-shape_by num env F (all a) = refl
-shape_by num env T (ex a) = refl
-shape_by num env F (ex a) = refl
-shape_by num env s (box a) = refl
-shape_by num env s (dia a) = refl
+shape_by num env T (atom p ts) = refl
+shape_by num env F (atom p ts) = refl
+shape_by num env T _ = refl
+shape_by num env F _ = refl
 
 pub modal_by : (num : Name → ℕ) (env : List GroundTerm) (l : Logic) (s : Sign) (f : Formula) → modal_of l s (formula_by num 0 env f) ≡ modal_of l s f
-modal_by num env Intuitionistic s (atom p ts) = refl
-modal_by num env _ s (atom p ts) = refl
-modal_by num env Intuitionistic s (neg a) = refl
-modal_by num env _ s (neg a) = refl
-modal_by num env Intuitionistic s (conj a b) = refl
-modal_by num env _ s (conj a b) = refl
-modal_by num env Intuitionistic s (disj a b) = refl
-modal_by num env _ s (disj a b) = refl
-modal_by num env Intuitionistic s (imp a b) = refl
-modal_by num env _ s (imp a b) = refl
-modal_by num env Intuitionistic s (all a) = refl
-modal_by num env _ s (all a) = refl
-modal_by num env Intuitionistic s (ex a) = refl
-modal_by num env _ s (ex a) = refl
-modal_by num env l s (box a) = refl
-modal_by num env l s (dia a) = refl
+modal_by num env Intuitionistic s (box a) = refl
+modal_by num env Intuitionistic s _ = refl
+modal_by num env _ s (box a) = refl
+modal_by num env _ s _ = refl
 
 -- how many quantifiers the components stand behind
 pub components_by : (num : Name → ℕ) (env : List GroundTerm) (s : Sign) (f : Formula) → components s (formula_by num 0 env f) ≡ map (λ (x : Signed). signed x.sign (formula_by num (binders f) env x.formula)) (components s f)
 components_by num env s (atom p ts) = refl
-components_by num env s (neg a) = refl
-components_by num env s (conj a b) = refl
-components_by num env s (disj a b) = refl
-components_by num env s (imp a b) = refl
-components_by num env s (all a) = refl
-components_by num env s (ex a) = refl
-components_by num env s (box a) = refl
-components_by num env s (dia a) = refl
+components_by num env s _ = refl
 
 -- ---- ground terms have no variable
 

@@ -1,7 +1,7 @@
 -- A conversion as it runs: the steps so far, the branch at hand and those that wait, each with the turns that are done there. One law for
 -- each thing that a run does. The turns may come in any order in which each is ready (`IsReady`): in that of the agenda, of which a
 -- branch has done the first ones, or in another on each branch.
-use Rattle.std.proofs.Common.{◌≡◌, ℕ, suc, ◌+◌, List, [], ◌∷◌, ◌++◌, map, length, true, false, ◌&&◌, IsTrue, Some, Ok, refl, sym, ◌∙◌, ap, subst, inl, slice_get}
+use Rattle.std.proofs.Common.{◌≡◌, ℕ, suc, List, [], ◌∷◌, ◌++◌, map, length, true, false, ◌&&◌, IsTrue, Some, Ok, refl, sym, ◌∙◌, ap, subst, inl, slice_get}
 use Rattle.std.specs.List.{AllByRecursion, list_all}
 use Rattle.std.proofs.lemmas.Bool.{and_parts, and_from}
 use Rattle.calculus.specs.declared.sign.Sign.TheVariants.{F}
