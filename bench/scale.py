@@ -132,8 +132,16 @@ def implications(n: int) -> Texts:
     return {"m.p": f"fof(a,axiom,{formula}).\n" + problem(formula)}
 
 
+def below_boxes(n: int) -> str:
+    return "#box:#dia:" * n + balanced("|", [f"q{k}" for k in range(n + 1)])
+
+
 def boxes_and_diamonds(n: int) -> Texts:
-    return {"m.p": problem("(%s%s => z)" % ("#box:#dia:" * n, balanced("|", [f"q{k}" for k in range(n + 1)])), "qmf")}
+    return {"m.p": problem(f"({below_boxes(n)} => z)", "qmf")}
+
+
+def boxes_on_both_sides(n: int) -> Texts:
+    return {"m.p": problem(f"({below_boxes(n)} => {below_boxes(n)})", "qmf")}
 
 
 FORK = 480
@@ -212,11 +220,13 @@ FAMILIES = [
            1000, ["check", *JUDGED, S4], label_again, ACCEPTED, is_known=False),
     Family("table-term", "a term of n names in n branches",
            500, ["check", *JUDGED], comb, ACCEPTED, is_known=False),
-    Family("prefixes-implications", "implications n deep as axiom and conjecture, ten steps",
-           15, ["prove", "m.p", INTUITIONISTIC, "--steps=10", "--limit=1"], implications, ("leancop derivation", "steps ended", "exhausted"),
-           lambda n: n * n),
+    Family("prefixes-implications", "implications n deep as axiom and conjecture, ten steps, the worth being literals times nesting",
+           15, ["prove", "m.p", INTUITIONISTIC, "--steps=10", "--limit=1"], implications, ("steps ended", "exhausted"),
+           lambda n: n ** 3, is_known=False),
     Family("prefixes-boxes", "n pairs of a box and a diamond before n literals, one step",
-           15, ["prove", "m.p", S4, "--steps=1"], boxes_and_diamonds, ("steps ended", "no tableau"), lambda n: n * n),
+           15, ["prove", "m.p", S4, "--steps=1"], boxes_and_diamonds, ("steps ended", "no tableau"), lambda n: n * n, is_known=False),
+    Family("prefixes-copies", "the formula of that family as axiom and conjecture, one step",
+           15, ["prove", "m.p", S4, "--steps=1"], boxes_on_both_sides, "steps ended", lambda n: n * n),
     Family("forks", "n clauses of 482 literals, each below all forks of the one before, the worth being also what is written",
            6, ["convert", *JUDGED], forks, "leancop derivation", is_known=False, is_written=True),
     Family("axioms-ground", "two equal ground atoms of n symbols, n axioms",

@@ -7,7 +7,7 @@ ghost use Rattle.search_theory.specs.TemplateOf.{patterns_of};
 ghost use Rattle.matrix_build.specs.PartView.{the_part};
 ghost use Rattle.matrix_build.specs.Parts.{numbered, with_gamma, with_literal, with_pi, with_side, with_sort};
 
-use crate::pattern::{copy_all, patterns_of};
+use crate::pattern::patterns_of;
 use crate::way::Way;
 use calculus::sign::Side;
 use cop_base::{NoMemory, SymbolId};
@@ -61,12 +61,12 @@ impl Part<'_> {
     }
 
     /// The variable `n` as a gamma term at the label that is reached.
-    pub fn add_gamma(&mut self, alloc: Global, n: u32, way: &Way) -> Result<(), NoMemory>
+    pub fn add_gamma(&mut self, n: u32, way: &Way) -> Result<(), NoMemory>
         ensures part { OnOk result (the_part self.new
             ≡ with_gamma (record { term = p_var n; label = way.now.label }) (the_part self.old)) }
         ensures count { OnOk result (numbered (the_part self.new) ≡ numbered (the_part self.old)) }
     {
-        let label = copy_all(alloc, &way.label)?;
+        let label = way.label.shared()?;
         let term = Pattern::Var(n);
         self.gammas.push(PatternGamma { term, label })?;
         Ok(())
@@ -90,7 +90,7 @@ impl Part<'_> {
         ensures count { OnOk result (numbered (the_part self.new) ≡ numbered (the_part self.old) + 1) }
     {
         let args = patterns_of(alloc, &way.env, args)?;
-        let label = copy_all(alloc, &way.label)?;
+        let label = way.label.shared()?;
         self.literals.push(PatternAtom {
             sign,
             symbol,

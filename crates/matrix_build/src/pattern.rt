@@ -12,32 +12,6 @@ use formula_core::{Term, Terms};
 use std::alloc::Global;
 use term_store::{Pattern, Patterns};
 
-/// A pattern that is equal to this one.
-#[cycle(copy_pattern)]
-pub(crate) fn copy(alloc: Global, pattern: &Pattern) -> Result<Pattern, NoMemory>
-    ensures { IfOk result (λ p. the_pattern p ≡ the_pattern pattern.now) }
-{
-    match pattern {
-        Pattern::Var(k) => Ok(Pattern::Var(*k)),
-        Pattern::Fun(f, parts) => Ok(Pattern::Fun(*f, copy_all(alloc, parts)?)),
-        Pattern::Eigen(p, parts) => Ok(Pattern::Eigen(*p, copy_all(alloc, parts)?)),
-        Pattern::New(p, parts) => Ok(Pattern::New(*p, copy_all(alloc, parts)?)),
-    }
-}
-
-/// A list that is equal to this one.
-#[cycle(copy_pattern)]
-#[tactic(auto, using(term_store::specs::PatternFalls::falling))]
-pub(crate) fn copy_all(alloc: Global, patterns: &Patterns) -> Result<Patterns, NoMemory>
-    ensures { IfOk result (λ ps. ps ≡ patterns.now) }
-{
-    let mut copied = Patterns::with_capacity(alloc, patterns.items().len())?;
-    for item in patterns.items() {
-        copied.push(copy(alloc, item)?)?;
-    }
-    Ok(copied)
-}
-
 /// The list with this pattern behind it.
 pub(crate) fn followed(
     alloc: Global,
@@ -47,7 +21,7 @@ pub(crate) fn followed(
     ensures { IfOk result (λ ps. ps ≡ patterns.now ++ the_pattern last ∷ []) }
 {
     let mut all = Patterns::with_capacity(alloc, patterns.items().len() + 1)?;
-    append(alloc, &mut all, patterns)?;
+    append(&mut all, patterns)?;
     all.push(last)?;
     Ok(all)
 }
@@ -58,15 +32,15 @@ pub(crate) fn led(alloc: Global, first: Pattern, patterns: &Patterns) -> Result<
 {
     let mut all = Patterns::with_capacity(alloc, patterns.items().len() + 1)?;
     all.push(first)?;
-    append(alloc, &mut all, patterns)?;
+    append(&mut all, patterns)?;
     Ok(all)
 }
 
-fn append(alloc: Global, all: &mut Patterns, patterns: &Patterns) -> Result<(), NoMemory>
+fn append(all: &mut Patterns, patterns: &Patterns) -> Result<(), NoMemory>
     ensures { IfOk result (λ _. all.new ≡ all.old ++ patterns.now) }
 {
     for item in patterns.items() {
-        all.push(copy(alloc, item)?)?;
+        all.push(item.shared()?)?;
     }
     Ok(())
 }
@@ -85,7 +59,7 @@ fn bound(alloc: Global, env: &Patterns, k: u32) -> Result<Pattern, NoMemory>
     let items = env.items();
     let place = k as usize;
     if place < items.len() {
-        return copy(alloc, &items[place]);
+        return Ok(items[place].shared()?);
     }
     Ok(stray(alloc))
 }

@@ -178,7 +178,7 @@ impl Plan {
         ensures few { IfOk result (λ _. IsFewBefore (position + suc (size (the_formula a.entry.formula.now))) (the_part part.new)) }
     {
         let n = part.add_variable(Sort::TermSort)?;
-        part.add_gamma(self.alloc, n, way)?;
+        part.add_gamma(n, way)?;
         let inside = way.inside_gamma(self.alloc, n)?;
         self.add_part(a.formula, a.sign, position + 1, &inside, part)?;
         Ok(())

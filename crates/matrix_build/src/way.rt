@@ -7,7 +7,7 @@ ghost use Rattle.matrix_build.specs.WayView.{nu_spot, pi_spot, spot_at, taken_wi
 ghost use Rattle.calculus.specs.Labels.{pi_label};
 ghost use Rattle.term_store.specs.PatternView.{the_pattern};
 
-use crate::pattern::{copy_all, followed, led};
+use crate::pattern::{followed, led};
 use cop_base::{NoMemory, PosId};
 use logic_rules::Logic;
 use std::alloc::Global;
@@ -62,7 +62,7 @@ impl Way {
     {
         let label = label_with(alloc, logic, &self.label, Pattern::Var(n))?;
         let taken = followed(alloc, &self.taken, Pattern::Var(n))?;
-        let env = copy_all(alloc, &self.env)?;
+        let env = self.env.shared()?;
         Ok(Way { label, taken, env })
     }
 
@@ -70,10 +70,10 @@ impl Way {
     pub fn after_pi(&self, alloc: Global, logic: Logic, at: u32) -> Result<Way, NoMemory>
         ensures { IfOk result (λ w. spot_at at w ≡ pi_spot logic (spot_at at self.now)) }
     {
-        let mark = Pattern::New(PosId(at), copy_all(alloc, &self.taken)?);
+        let mark = Pattern::New(PosId(at), self.taken.shared()?);
         let label = label_with(alloc, logic, &self.label, mark)?;
-        let taken = copy_all(alloc, &self.taken)?;
-        let env = copy_all(alloc, &self.env)?;
+        let taken = self.taken.shared()?;
+        let env = self.env.shared()?;
         Ok(Way { label, taken, env })
     }
 
@@ -82,7 +82,7 @@ impl Way {
         ensures { IfOk result (λ w. (p q : ℕ) → q ≡ p + 1 → spot_at q w
             ≡ pattern_inside (p_var n) (taken_with n self.now) (spot_at p self.now)) }
     {
-        let label = copy_all(alloc, &self.label)?;
+        let label = self.label.shared()?;
         let taken = followed(alloc, &self.taken, Pattern::Var(n))?;
         let env = led(alloc, Pattern::Var(n), &self.env)?;
         Ok(Way { label, taken, env })
@@ -95,9 +95,9 @@ impl Way {
             ≡ pattern_inside (p_eigen at (patterns_tree self.now.taken)) self.now.taken
             (spot_at at self.now)) }
     {
-        let eigen = Pattern::Eigen(PosId(at), copy_all(alloc, &self.taken)?);
-        let label = copy_all(alloc, &self.label)?;
-        let taken = copy_all(alloc, &self.taken)?;
+        let eigen = Pattern::Eigen(PosId(at), self.taken.shared()?);
+        let label = self.label.shared()?;
+        let taken = self.taken.shared()?;
         let env = led(alloc, eigen, &self.env)?;
         Ok(Way { label, taken, env })
     }

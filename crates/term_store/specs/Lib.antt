@@ -3,6 +3,7 @@ pub mod StoreView
 pub mod Slots
 pub mod Shown
 pub mod Built
+pub mod PatternItems
 pub mod PatternView
 pub mod PatternFalls
 pub mod Fitting
