@@ -46,9 +46,9 @@ leftmost-at P m base d c s steps goals goal g a at f = record { steps = steps; g
 -- ---- why an extension is passed over
 
 -- by these marks it is without hope
-pub passed-by_marks : (P : Problem) (m : List MatrixClause) (d : ℕ) (c : List Choice) (g : CellGoal) (left : Bool) (p : MatrixPlace) (o : Option ℕ) (marks : ℕ) → o ≡ Some marks → MayPassBy d g left o → ((x : CellGoal) → MarksPath marks (x.literal ∷ x.path) → IsHopelessAt m p x) → IsPassed P m d c g left (extension_at m p)
+pub passed-by_marks : (P : Problem) (m : List MatrixClause) (d : ℕ) (c : List Choice) (g : CellGoal) (left : Bool) (p : MatrixPlace) (o : Option ℕ) (marks : ℕ) → o ≡ Some marks → MayPassBy d g left o → (MarksPath marks (g.literal ∷ g.path) → IsHopelessAt m p g) → IsPassed P m d c g left (extension_at m p)
 passed-by_marks P m d c g left p None marks e h bad = let z : None ≡ Some marks = e in absurd (cc z)
-passed-by_marks P m d c g left p (Some n) marks e (known, near, marked) bad = inr (known, near, (p, refl, bad g (subst (λ k. MarksPath k (g.literal ∷ g.path)) (let z : n ≡ marks = cc e in z) marked)))
+passed-by_marks P m d c g left p (Some n) marks e (known, near, marked) bad = inr (known, near, (p, refl, bad (subst (λ k. MarksPath k (g.literal ∷ g.path)) (let z : n ≡ marks = cc e in z) marked)))
 
 -- names show that no tree follows it
 pub passed-by_names : (P : Problem) (m : List MatrixClause) (base d : ℕ) (c : List Choice) (s : Store) (k place : ℕ) (g : CellGoal) (left : Bool) (t : Template) (qs : List PatternAtom) (q : PatternAtom) (a : CellAtom) → IsMatrixOf P m → IsLeftmost P m base d c s a g → ExtendsBy m d g (place_of k place) → option_map (λ (x : MatrixClause). x.template) (slice_get m k) ≡ Some t → qs ≡ t.literals → slice_get qs place ≡ Some q → HasClash s a q → IsPassed P m d c g left (extension_at m (place_of k place))

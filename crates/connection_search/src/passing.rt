@@ -19,8 +19,8 @@ ghost use Rattle.search_tree.specs.Weights.{weight};
 
 use crate::limit_search::LimitSearch;
 use cop_base::NoMemory;
-use matrix_build::{Matrix, Place};
-use search_tree::{Move, Point, Tree, has_clash, is_hopeless_place, literal_at, marks_of, other};
+use matrix_build::{Matrix, Place, literal_at};
+use search_tree::{Move, Point, Tree, has_clash, is_hopeless_place, marks_of, other};
 use term_store::{CellAtom, Store};
 
 // Whether the extension by the literal at the place is without hope by these marks, or names show that

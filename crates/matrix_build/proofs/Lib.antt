@@ -7,6 +7,7 @@
 -- once (`MatrixLaws.matrix-of`). `PartLaws` has one law for each step (`nu-part`, `pi-part`, `gamma-part`, `beta-adds`). The position of a
 -- second component comes from a table of sizes in preorder (`SizeLaws.sized-parts`, `parts-of`). Selections are built from the top down,
 -- each behind the sides above it (`Behind`). The index: each clause adds to the row of a symbol and sign exactly its places (`Rows`).
+-- Marks of what literals need: one for each literal, and no others (`NeedsLaws`).
 --
 -- Lists of patterns are made with room for their items; what is counted only as it is built, the literals and gamma terms of a clause,
 -- gives its room back at the end (`Part::shrink_to_fit`).
@@ -21,6 +22,7 @@ pub mod Behind
 mod Examples
 pub mod FewLaws
 pub mod MatrixLaws
+pub mod NeedsLaws
 pub mod PartLaws
 pub mod Rows
 pub mod SizeLaws

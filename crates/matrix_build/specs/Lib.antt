@@ -1,6 +1,7 @@
 pub mod Behind
 pub mod Fits
 pub mod MatrixView
+pub mod Needs
 pub mod PartView
 pub mod Parts
 pub mod SizedParts

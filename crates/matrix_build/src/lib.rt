@@ -4,6 +4,7 @@
 mod clause;
 mod index;
 mod matrix;
+mod needs;
 mod part;
 mod pattern;
 mod selections;
@@ -14,3 +15,4 @@ mod way;
 
 pub use index::Place;
 pub use matrix::{Matrix, MatrixFault, build_matrix};
+pub use needs::{literal_at, with_mark};

@@ -8,12 +8,14 @@ ghost use Rattle.search_theory.specs.Matrix.{IsTemplateMatrix, MatrixClause, all
 ghost use Rattle.formula_core.specs.FormulaView.{the_formula};
 ghost use Rattle.matrix_build.specs.Fits.{AreTemplatesIfAny, FitsMatrix};
 ghost use Rattle.matrix_build.specs.MatrixView.{HasFewLiterals, the_clause, the_place};
+ghost use Rattle.matrix_build.specs.Needs.{AreNeeds};
 ghost use Rattle.matrix_build.specs.Sizes.{sizes_of};
 ghost use Rattle.matrix_build.specs.declared.matrix.MatrixFault.TheVariants as fault;
 ghost use Rattle.term_store.specs.TemplateView.{the_template};
 
 use crate::clause::{Clause, all_shown};
 use crate::index::{Index, Place};
+use crate::needs::needs_of_all;
 use crate::selections::selections;
 use crate::sizes::add_sizes;
 use crate::walk::Plan;
@@ -25,11 +27,13 @@ use std::marker::Model;
 use tableau_core::Selection;
 use term_store::Template;
 
-/// The clauses of a problem in the order of their selections, with the places of their literals.
+/// The clauses of a problem in the order of their selections, with the places of their literals, and
+/// marks of what these need above them.
 #[derive(Drop)]
 pub struct Matrix {
     clauses: Vec<Clause>,
     index: Index,
+    needs: Vec<u64>,
 }
 
 impl Model for Matrix {
@@ -43,10 +47,12 @@ impl Model for Matrix {
     ghost coded = { Prim.hlevel (codes, pattern_code) };
 
     ghost use Rattle.matrix_build.specs.MatrixView.{IsIndex, the_clause};
+    ghost use Rattle.matrix_build.specs.Needs.{AreAllNeeds};
 
     ghost view = { λ m. map the_clause m.clauses.items };
 
-    ghost invariant = { λ m. IsIndex m.index.rows.items (map the_clause m.clauses.items) };
+    ghost invariant = { λ m. IsIndex m.index.rows.items (map the_clause m.clauses.items)
+        × AreAllNeeds m.needs.items (map the_clause m.clauses.items) };
 }
 
 /// Why there is no matrix.
@@ -89,7 +95,12 @@ pub fn build_matrix(alloc: Global, problem: &Problem) -> Result<Matrix, MatrixFa
     }
     let clauses = clauses_of(alloc, problem.setting().logic(), formula)?;
     let index = Index::new(alloc, &clauses)?;
-    Ok(Matrix { clauses, index })
+    let needs = needs_of_all(alloc, &clauses)?;
+    Ok(Matrix {
+        clauses,
+        index,
+        needs,
+    })
 }
 
 // What a walk over the formula goes by.
@@ -167,5 +178,14 @@ impl Matrix {
         ensures { map the_place result.now ≡ places self.now symbol.0 sign }
     {
         self.index.places(symbol, sign)
+    }
+
+    /// The marks of what the literals of a clause need above them, where no extension closes them.
+    pub fn needs(&self, c: ClauseId) -> u64
+        requires { c.0 < length self.now }
+        ensures { (x : MatrixClause) → slice_get self.now c.0 ≡ Some x
+            → AreNeeds x.template.literals result }
+    {
+        self.needs[c.0 as usize]
     }
 }

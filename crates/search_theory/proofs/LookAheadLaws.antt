@@ -1,11 +1,9 @@
 -- Looking ahead at the path limit: a goal with as many goals above it as the limit is closed by a reduction, or not at all. So too a goal
 -- with one goal less above it, where each extension gives a goal without a reduction.
-use Rattle.std.proofs.Common.{◌≡◌, ℕ, zero, suc, ◌+◌, ◌<◌, ◌≤◌, List, [], ◌∷◌, ◌++◌, length, map, not, IsTrue, refl, sym, ◌∙◌, ap, subst, Option, Some, None, option_map, slice_get, remove, arith, ltb-true, ap₂, ◌*◌, ◌^◌, ◌%◌}
+use Rattle.std.proofs.Common.{◌≡◌, ℕ, zero, suc, ◌+◌, ◌<◌, ◌≤◌, List, [], ◌∷◌, ◌++◌, length, map, not, IsTrue, refl, sym, ◌∙◌, ap, subst, Option, Some, None, option_map, slice_get, remove, arith, ltb-true, ap₂}
 use Rattle.std.specs.List.{AllByRecursion}
 use Rattle.std.specs.Int.{bit_at}
 use Rattle.std.proofs.lemmas.Bool.{false≢true, and_parts}
-use Rattle.std.proofs.lemmas.Nat.{one_shl}
-use Rattle.std.proofs.lemmas.Nat.Bits.{bit_at-pow_same}
 use Rattle.std.proofs.lemmas.List.{length-map}
 use Rattle.std.proofs.lemmas.Option.{slice_get-map}
 use Rattle.plain_laws.proofs.Every.{each-append}
@@ -269,11 +267,3 @@ unmarked-lacks mask path symbol sign h zero_bit x =
     let same : bit_of x.atom.symbol x.atom.sign ≡ bit_of symbol (other sign) = ap₂ bit_of (sym x.symbols) (other-of sign x.atom.sign x.signs) in
     let z : 0 ≡ 1 = sym zero_bit ∙ sym (ap (bit_at mask) same) ∙ marked in
     cc z
-
--- the word with one bit alone, as a path gets it
-pub bit-alone : (symbol : ℕ) (sign : Sign) → bit_at (1 * 2 ^ bit_of symbol sign % 2 ^ 64) (bit_of symbol sign) ≡ 1
-bit-alone symbol sign = ap (λ n. bit_at n (bit_of symbol sign)) (one_shl (bit_of symbol sign) 64 (by sign)) ∙ bit_at-pow_same (bit_of symbol sign)
-  where
-    by : (s : Sign) → bit_of symbol s < 64
-    by F = omega arith
-    by T = omega arith

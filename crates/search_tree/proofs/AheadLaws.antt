@@ -1,12 +1,13 @@
 -- Looking ahead at the path limit: goals that no bindings close within it, and lists that are dropped where the limit is known to be left.
-use Rattle.std.proofs.Common.{◌≡◌, ◌≢◌, ◌⊎◌, ◌&&◌, ◌==◌, ◌+◌, ◌<◌, ◌≤◌, ◌%◌, ◌^◌, ◌*◌, ℕ, zero, suc, Bool, List, [], ◌∷◌, length, max, not, true, false, IsTrue, refl, sym, ◌∙◌, ap, subst, Option, Some, None, option_map, slice_get, remove, inl, inr, arith, bit_or, eq-eqb}
+use Rattle.std.proofs.Common.{◌≡◌, ◌≢◌, ◌⊎◌, ◌&&◌, ◌==◌, ◌+◌, ◌<◌, ◌≤◌, ◌^◌, ℕ, zero, suc, Bool, List, [], ◌∷◌, length, max, not, true, false, IsTrue, refl, sym, ◌∙◌, ap, ap₂, subst, Option, Some, None, slice_get, remove, inl, inr, arith, bit_or, eq-eqb}
 use Rattle.std.specs.Int.{bit_at}
-use Rattle.std.proofs.lemmas.Bool.{and_parts, cases_eq, false≢true}
+use Rattle.std.proofs.lemmas.Bool.{and_parts, cases_eq, cases_lt, false≢true}
 use Rattle.std.proofs.lemmas.Option.{slice_get_within}
-use Rattle.std.proofs.lemmas.Nat.Bits.{bit_at-lt, bit_at_or}
+use Rattle.std.proofs.lemmas.Nat.Bits.{bit_at-lt, bit_at_above, bit_at_or, same_from_bits}
 use Rattle.plain_laws.proofs.Places.{get-within}
 use Rattle.plain_laws.proofs.Options.{same-some}
 use Rattle.calculus.specs.declared.sign.Sign.{Sign}
+use Rattle.calculus.specs.declared.sign.Sign.TheVariants.{T, F}
 use Rattle.calculus.specs.Choices.{Choice}
 use Rattle.calculus.specs.Equality.{sign_eq}
 use Rattle.calculus.specs.Kinds.{other}
@@ -16,43 +17,69 @@ use Rattle.search_theory.specs.Matrix.{MatrixClause, MatrixPlace, places}
 use Rattle.search_theory.specs.OrderedChoices.{meets}
 use Rattle.search_theory.specs.States.{CellGoal, atom_is_below, goal_is_below}
 use Rattle.search_theory.specs.Steps.{Clash}
-use Rattle.search_theory.proofs.LookAheadLaws.{bit-alone, unmarked-lacks}
-use Rattle.store_theory.specs.Patterns.{PatternAtom, Template}
+use Rattle.search_theory.proofs.LookAheadLaws.{unmarked-lacks}
+use Rattle.store_theory.specs.Patterns.{PatternAtom}
 use Rattle.store_theory.specs.Stores.{Store, names_below}
 use Rattle.store_theory.specs.Systems.{CellAtom}
 use Rattle.search_tree.specs.Points.{row_of}
-use Rattle.search_tree.specs.Ahead.{HasNoHope}
-use Rattle.search_tree.specs.Running.{StandsFor}
+use Rattle.matrix_build.specs.Needs.{AreNeeds, needed}
+use Rattle.search_tree.specs.Ahead.{HasNoHope, MeetsPlace}
+use Rattle.search_tree.specs.Running.{ExtendsBy, StandsFor}
 use Rattle.search_tree.specs.Trees.{AreOpen, IsGoalAt, atom_at}
 use Rattle.search_tree.specs.declared.tree.Goal.{Goal}
 use Rattle.search_tree.specs.declared.tree.Step.{Step}
-use Rattle.search_tree.proofs.PlaceLaws.{place-found, place-stands}
+use Rattle.search_tree.proofs.PlaceLaws.{about-sign, about-symbol, place-found, place-stands}
 use Rattle.search_tree.proofs.SeenLaws.{goal-wanted}
 use Rattle.search_tree.proofs.TreeLaws.{atom-found}
 
 -- ---- marks
 
-set-or : (x y b : ℕ) → (bit_at x b ≡ 1) ⊎ (bit_at y b ≡ 1) → bit_at (bit_or x y) b ≡ 1
-set-or x y b h = by (bit_at-lt x b) (bit_at-lt y b) h (bit_at_or x y b)
+pub unequal : (x y : ℕ) → not (x == y) ≡ true → ¬ (x ≡ y)
+unequal x y h e = by (x == y) (eq-eqb x y e) h
   where
-    by : bit_at x b < 2 → bit_at y b < 2 → (bit_at x b ≡ 1) ⊎ (bit_at y b ≡ 1) → bit_at (bit_or x y) b ≡ max (bit_at x b) (bit_at y b) → bit_at (bit_or x y) b ≡ 1
-    by l k (inl e) q = omega (arith, l, k, e, q)
-    by l k (inr e) q = omega (arith, l, k, e, q)
+    by : (b : Bool) → b ≡ true → not b ≡ true → ⊥
+    by true f k = false≢true k
+    by false f k = false≢true f
 
--- a mark that is added is there, and those that were
-pub marked-own : (marks bit symbol : ℕ) (sign : Sign) → bit ≡ bit_of symbol sign → bit_at (bit_or marks (1 * 2 ^ bit % 2 ^ 64)) (bit_of symbol sign) ≡ 1
-marked-own marks bit symbol sign e = subst (λ n. bit_at (bit_or marks (1 * 2 ^ n % 2 ^ 64)) (bit_of symbol sign) ≡ 1) (sym e) (set-or marks (1 * 2 ^ bit_of symbol sign % 2 ^ 64) (bit_of symbol sign) (inr (bit-alone symbol sign)))
+other-of : (s t : Sign) → IsTrue (not (sign_eq s t)) → s ≡ other t
+other-of T T h = absurd (false≢true h)
+other-of T F h = refl
+other-of F T h = refl
+other-of F F h = absurd (false≢true h)
 
-pub unmarked : (marks bit symbol : ℕ) (sign : Sign) → bit ≡ bit_of symbol sign → (bit_at marks bit == 1) ≡ false → bit_at marks (bit_of symbol sign) ≡ 0
-unmarked marks bit symbol sign e h = subst (λ n. bit_at marks n ≡ 0) e (none (bit_at marks bit) (bit_at-lt marks bit) h)
+-- marks that are wanting show in the sum of both
+pub wanting : (needs marks : ℕ) → needs < 2 ^ 64 → marks < 2 ^ 64 → ¬ (bit_or needs marks ≡ marks) → (b : ℕ) × (bit_at needs b ≡ 1) × (bit_at marks b ≡ 0)
+wanting needs marks small few differ = by (search 64)
   where
-    none : (n : ℕ) → n < 2 → (n == 1) ≡ false → n ≡ 0
-    none zero l k = refl
-    none (suc zero) l k = absurd (false≢true (sym k))
-    none (suc (suc n)) l k = absurd (omega (arith, l))
+    HasWanting : Type 0
+    HasWanting = (b : ℕ) × (bit_at needs b ≡ 1) × (bit_at marks b ≡ 0)
 
-pub marked-others : (marks more b : ℕ) → bit_at marks b ≡ 1 → bit_at (bit_or marks more) b ≡ 1
-marked-others marks more b h = set-or marks more b (inl h)
+    at : (b : ℕ) → (bit_at (bit_or needs marks) b ≡ bit_at marks b) ⊎ HasWanting
+    at b = look (bit_at needs b) (bit_at marks b) refl refl (bit_at-lt needs b) (bit_at-lt marks b) (bit_at_or needs marks b)
+      where
+        look : (x y : ℕ) → bit_at needs b ≡ x → bit_at marks b ≡ y → bit_at needs b < 2 → bit_at marks b < 2 → bit_at (bit_or needs marks) b ≡ max (bit_at needs b) (bit_at marks b) → (bit_at (bit_or needs marks) b ≡ bit_at marks b) ⊎ HasWanting
+        look zero y ex ey l k q = inl (omega (arith, ex, ey, q))
+        look (suc zero) zero ex ey l k q = inr (b, ex, ey)
+        look (suc zero) (suc y) ex ey l k q = inl (omega (arith, ex, ey, k, q))
+        look (suc (suc x)) y ex ey l k q = absurd (omega (arith, ex, l))
+
+    search : (n : ℕ) → ((b : ℕ) → b < n → bit_at (bit_or needs marks) b ≡ bit_at marks b) ⊎ HasWanting
+    search zero = inl (λ b l. absurd (omega (arith, l)))
+    search (suc n) = elim (search n) [ inl below ↦ add below (at n) | inr found ↦ inr found ]
+      where
+        add : ((b : ℕ) → b < n → bit_at (bit_or needs marks) b ≡ bit_at marks b) → (bit_at (bit_or needs marks) n ≡ bit_at marks n) ⊎ HasWanting → ((b : ℕ) → b < suc n → bit_at (bit_or needs marks) b ≡ bit_at marks b) ⊎ HasWanting
+        add below (inr found) = inr found
+        add below (inl same) = inl (λ b l. elim (cases_eq b n) [
+          | inl e ↦ subst (λ k. bit_at (bit_or needs marks) k ≡ bit_at marks k) (sym e) same
+          | inr d ↦ below b (omega (arith, l, d))
+        ])
+
+    beyond : (b : ℕ) → 64 ≤ b → bit_at (bit_or needs marks) b ≡ bit_at marks b
+    beyond b l = let x = bit_at_above needs 64 b small l in let y = bit_at_above marks 64 b few l in let q = bit_at_or needs marks b in omega (arith, x, y, q)
+
+    by : ((b : ℕ) → b < 64 → bit_at (bit_or needs marks) b ≡ bit_at marks b) ⊎ HasWanting → HasWanting
+    by (inr found) = found
+    by (inl below) = absurd (differ (same_from_bits (bit_or needs marks) marks (λ b. elim (cases_lt b 64) [ inl l ↦ below b l | inr l ↦ beyond b l ])))
 
 -- the goal's own mark and those of its path
 pub marks-goal : (marks : ℕ) (x : CellGoal) → bit_at marks (bit_of x.literal.symbol x.literal.sign) ≡ 1 → ((k : ℕ) (a : CellAtom) → slice_get x.path k ≡ Some a → bit_at marks (bit_of a.symbol a.sign) ≡ 1) → MarksPath marks (x.literal ∷ x.path)
@@ -76,25 +103,44 @@ other-there (y ∷ xs) zero (suc i) x n e = (i, e)
 other-there (y ∷ xs) (suc place) zero x n e = (0, e)
 other-there (y ∷ xs) (suc place) (suc i) x n e = let w = other-there xs place i x (λ q. n (ap suc q)) e in (suc w.0, w.1)
 
--- another literal of the place's clause has a symbol that is not marked under the other sign
-pub place-hopeless : (m : List MatrixClause) (p : MatrixPlace) (t : Template) (i : ℕ) (q : PatternAtom) (marks : ℕ) → option_map (λ (x : MatrixClause). x.template) (slice_get m p.clause) ≡ Some t → slice_get t.literals i ≡ Some q → i ≢ p.literal → bit_at marks (bit_of q.symbol (other q.sign)) ≡ 0 → (g : CellGoal) → MarksPath marks (g.literal ∷ g.path) → IsHopelessAt m p g
-place-hopeless m p t i q marks found there differs none g marked = by (slice_get m p.clause) refl found
+-- another literal of the place's clause needs a mark that the path lacks: the one at the place needs that of the goal
+pub place-hopeless : (m : List MatrixClause) (p : MatrixPlace) (g : CellGoal) (needs marks b : ℕ) → ((x : MatrixClause) → slice_get m p.clause ≡ Some x → AreNeeds x.template.literals needs) → MeetsPlace m p g → MarksPath marks (g.literal ∷ g.path) → bit_at needs b ≡ 1 → bit_at marks b ≡ 0 → IsHopelessAt m p g
+place-hopeless m p g needs marks b each meets marked set none =
+    let (i, q, at, is) = (each meets.clause meets.stands).only b set in
+    let (n, stands) = other-there meets.clause.template.literals p.literal i q (differs i q at is) at in
+    record {
+      clause = meets.clause;
+      stands = meets.stands;
+      hopeless = record {
+        number = n;
+        literal = q;
+        stands = stands;
+        lacking = unmarked-lacks marks (g.literal ∷ g.path) q.symbol q.sign marked (ap (bit_at marks) (sym is) ∙ none);
+      };
+    }
   where
-    by : (o : Option MatrixClause) → slice_get m p.clause ≡ o → option_map (λ (x : MatrixClause). x.template) o ≡ Some t → IsHopelessAt m p g
-    by None e f = let z : None ≡ Some t = f in absurd (cc z)
-    by (Some c) e f =
-        let same : c.template ≡ t = cc f in
-        let (n, stands) = other-there t.literals p.literal i q differs there in
-        record {
-          clause = c;
-          stands = e;
-          hopeless = record {
-            number = n;
-            literal = q;
-            stands = subst (λ (z : Template). slice_get (remove z.literals p.literal) n ≡ Some q) (sym same) stands;
-            lacking = unmarked-lacks marks (g.literal ∷ g.path) q.symbol q.sign marked none;
-          };
-        }
+    differs : (i : ℕ) (q : PatternAtom) → slice_get meets.clause.template.literals i ≡ Some q → b ≡ needed q → i ≢ p.literal
+    differs i q at is e =
+        let same : q ≡ meets.literal = same-some (slice_get meets.clause.template.literals p.literal) q meets.literal (subst (λ k. slice_get meets.clause.template.literals k ≡ Some q) e at) meets.there in
+        let own : needed meets.literal ≡ bit_of g.literal.symbol g.literal.sign = ap₂ bit_of (sym meets.symbols) (sym (other-of g.literal.sign meets.literal.sign meets.signs)) in
+        let z : 0 ≡ 1 = sym none ∙ ap (bit_at marks) (is ∙ ap needed same ∙ own) ∙ marked 0 g.literal refl in
+        cc z
+
+-- the row of a goal has such literals, as each extension has
+pub row-meets : (m : List MatrixClause) (items : List MatrixPlace) (x : CellGoal) (i : ℕ) (p : MatrixPlace) → items ≡ row_of m x → slice_get items i ≡ Some p → MeetsPlace m p x
+row-meets m items x i p e at =
+    let w = place-stands m x.literal.symbol (other x.literal.sign) i p (subst (λ ps. slice_get ps i ≡ Some p) e at) in
+    record {
+      clause = w.clause;
+      stands = place-found m x.literal.symbol (other x.literal.sign) p w;
+      literal = w.literal;
+      there = w.there;
+      signs = about-sign x.literal.symbol x.literal.sign w.literal w.about;
+      symbols = about-symbol x.literal.symbol (other x.literal.sign) w.literal w.about;
+    }
+
+pub extension-meets : (m : List MatrixClause) (d : ℕ) (g : CellGoal) (p : MatrixPlace) → ExtendsBy m d g p → MeetsPlace m p g
+extension-meets m d g p e = record { clause = e.clause; stands = e.stands; literal = e.literal; there = e.there; signs = e.signs; symbols = e.symbols }
 
 -- ---- goals that an ancestor may close
 

@@ -1,7 +1,8 @@
 -- Looking ahead: goals that no bindings close within the path limit, and choices that are passed over.
-use Rattle.std.specs.Prelude.{◌≡◌, ◌⊎◌, ◌+◌, ◌≤◌, ℕ, List, [], ◌∷◌, ◌++◌, length, Bool, true, Option, MatchOption, ⊤}
+use Rattle.std.specs.Prelude.{◌≡◌, ◌⊎◌, ◌+◌, ◌≤◌, ℕ, List, [], ◌∷◌, ◌++◌, length, not, Bool, true, IsTrue, Option, Some, MatchOption, ⊤, slice_get}
 use Rattle.std.specs.List.{AllByRecursion}
 use Rattle.calculus.specs.Choices.{Choice}
+use Rattle.calculus.specs.Equality.{sign_eq}
 use Rattle.calculus.specs.Kinds.{other}
 use Rattle.calculus.specs.Syntax.{Problem}
 use Rattle.matrix_build.specs.MatrixView.{the_place}
@@ -12,6 +13,7 @@ use Rattle.search_theory.specs.Exploring.{IsIn}
 use Rattle.search_theory.specs.Matrix.{MatrixClause, MatrixPlace, places}
 use Rattle.search_theory.specs.OrderedChoices.{extension_at}
 use Rattle.search_theory.specs.States.{CellGoal}
+use Rattle.store_theory.specs.Patterns.{PatternAtom}
 use Rattle.store_theory.specs.Stores.{Store}
 use Rattle.store_theory.specs.Systems.{CellAtom}
 use Rattle.search_tree.specs.Points.{HasExtensions, HasUntried, IsMoveAt, the_move}
@@ -20,6 +22,15 @@ use Rattle.search_tree.specs.declared.point.Move.{Move}
 use Rattle.search_tree.specs.declared.point.Point.{Point}
 use Rattle.search_tree.specs.declared.tree.Goal.{Goal}
 use Rattle.search_tree.specs.declared.tree.Step.{Step}
+
+-- the literal at the place has the goal's symbol and the other sign
+pub record MeetsPlace (m : List MatrixClause) (p : MatrixPlace) (g : CellGoal) : Type 0 where
+  pub clause : MatrixClause
+  pub stands : slice_get m p.clause ≡ Some clause
+  pub literal : PatternAtom
+  pub there : slice_get clause.template.literals p.literal ≡ Some literal
+  pub signs : IsTrue (not (sign_eq g.literal.sign literal.sign))
+  pub symbols : g.literal.symbol ≡ literal.symbol
 
 -- each extension of the goal gives a goal whose path lacks its symbol with the other sign
 abbrev pub HasNoHope : List MatrixClause → CellGoal → Type 0

@@ -21,7 +21,7 @@ pub use atoms::{meets, other, reference_at};
 pub use failed::Failed;
 pub use heads::{has_clash, have_clash};
 pub use label_tests::Tests;
-pub use literal_marks::{has_no_hope_by, is_hopeless_place, literal_at, marks_of};
+pub use literal_marks::{has_no_hope_by, is_hopeless_place, marks_of};
 pub use look::Look;
 pub use point::{Move, Point};
 pub use state::SearchState;

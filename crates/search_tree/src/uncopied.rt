@@ -18,11 +18,11 @@ ghost use Rattle.search_tree.specs.Uncopied.{IsLostOver, IsSetAside};
 
 use crate::atoms::are_same_sign;
 use crate::heads::have_clash_over;
-use crate::literal_marks::{has_no_hope_by, literal_at, marks_of, with_mark};
+use crate::literal_marks::{has_no_hope_by, marks_of};
 use crate::occurrences::Others;
 use crate::tree::Tree;
 use cop_base::NoMemory;
-use matrix_build::Matrix;
+use matrix_build::{Matrix, literal_at, with_mark};
 use term_store::{CellAtom, PatternAtom, Store, Template, Variables};
 use term_unify::Unifier;
 
