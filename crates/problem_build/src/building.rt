@@ -42,15 +42,6 @@ use logic_rules::{Logic, Problem, Setting};
 use std::alloc::Global;
 use tptp_reader::ChainKind;
 
-fn is_modal(logic: Logic) -> bool
-    ensures { result ≡ is_modal logic }
-{
-    match logic {
-        Logic::Classical | Logic::Intuitionistic => false,
-        Logic::D | Logic::T | Logic::S4 | Logic::S5 => true,
-    }
-}
-
 #[tactic(auto, using(crate::proofs::ListLaws::searched))]
 fn has_equality(alloc: Global, symbols: &Symbols) -> Result<bool, NoMemory>
     ensures { IfOk result (λ b. b ≡ list_any (symbol_eq equality_symbol) symbols.now) }
@@ -66,7 +57,7 @@ fn has_equality(alloc: Global, symbols: &Symbols) -> Result<bool, NoMemory>
 fn has_axioms(alloc: Global, logic: Logic, symbols: &Symbols) -> Result<bool, NoMemory>
     ensures { IfOk result (λ b. b ≡ (not (is_modal logic) && list_any (symbol_eq equality_symbol) symbols.now)) }
 {
-    if is_modal(logic) {
+    if logic.is_modal() {
         return Ok(false);
     }
     let has = has_equality(alloc, symbols)?;
@@ -304,7 +295,7 @@ pub fn build<L: Library>(
     ensures missing { (n : Text) → result ≡ Err (BuildFault.Missing n) → Rose (L.misses lib.old) (L.misses lib.new) }
     ensures failed { (n : Text) → result ≡ Err (BuildFault.Failed n) → Rose (L.faults lib.old) (L.faults lib.new) }
 {
-    let walked = match walk_files(alloc, lib, is_modal(setting.logic()), name, root) {
+    let walked = match walk_files(alloc, lib, setting.logic().is_modal(), name, root) {
         Ok(walked) => walked,
         Err(fault) => return Err(fault),
     };
