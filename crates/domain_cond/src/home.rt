@@ -119,9 +119,8 @@ fn push_item(logic: Logic, label: &mut Vec<Ref>, item: Ref) -> Result<(), NoMemo
     ensures { OnOk result (map the_place label.new.items
         ≡ pi_label logic (map the_place label.old.items) item.0) }
 {
-    match logic {
-        Logic::S5 => label.clear(),
-        Logic::Classical | Logic::Intuitionistic | Logic::D | Logic::T | Logic::S4 => {}
+    if !logic.keeps_prefix() {
+        label.clear();
     }
     label.push(item)?;
     Ok(())

@@ -1,11 +1,11 @@
 -- Trees of beginnings of labels, as they grow label by label.
-use Rattle.std.specs.Prelude.{◌≡◌, ℕ, ◌<◌, ◌≤◌, List, [], ◌∷◌, ◌++◌, length, Some, slice_get, Bool, true, false}
+use Rattle.std.specs.Prelude.{◌≡◌, ℕ, ◌<◌, ◌≤◌, List, [], ◌∷◌, ◌++◌, length, Some, slice_get, Bool, true, false, is_some}
 use Rattle.std.specs.List.{AllByRecursion}
 use Rattle.calculus.specs.declared.setting.Logic.{Logic}
-use Rattle.calculus.specs.declared.setting.Logic.TheVariants.{Classical, Intuitionistic, D, T as LogicT, S4, S5}
 use Rattle.calculus.specs.declared.sort.Sort.{Sort}
 use Rattle.calculus.specs.declared.sort.Sort.TheVariants.{TermSort, MarkSort, StringSort}
 use Rattle.calculus.specs.Ground.{GroundMark}
+use Rattle.calculus.specs.Labels.{greatest_length}
 use Rattle.store_theory.specs.Stores.{Store, EndsAt, Solution, Solves}
 use Rattle.store_theory.specs.Systems.{Differ, Equation, IsOpenString, IsStep, Pair}
 use Rattle.search_theory.specs.States.{label_by}
@@ -22,12 +22,7 @@ use Rattle.prefix_split.specs.Beginnings.{AllApart, AllBegin, AreValues, HasExte
 
 -- the strings of the logic have at most one character
 abbrev pub has_short_steps : Logic → Bool
-has_short_steps Classical = true
-has_short_steps Intuitionistic = false
-has_short_steps D = true
-has_short_steps LogicT = true
-has_short_steps S4 = false
-has_short_steps S5 = true
+has_short_steps l = is_some (greatest_length l)
 
 abbrev pub is_mark_sort : Sort → Bool
 is_mark_sort TermSort = false

@@ -36,14 +36,7 @@ use term_unify::Unifier;
 fn has_short_steps(logic: Logic) -> bool
     ensures { result ≡ has_short_steps logic }
 {
-    match logic {
-        Logic::Classical => true,
-        Logic::Intuitionistic => false,
-        Logic::D => true,
-        Logic::T => true,
-        Logic::S4 => false,
-        Logic::S5 => true,
-    }
+    logic.greatest_length().is_some()
 }
 
 // Whether an unbound string of at most one mark stands there.

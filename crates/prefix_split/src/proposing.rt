@@ -94,19 +94,6 @@ fn lengths_by(
     Ok(lengths)
 }
 
-fn is_step_length(logic: Logic, n: u32) -> bool
-    ensures { result ≡ is_step_length logic n }
-{
-    match logic {
-        Logic::Classical => n == 0,
-        Logic::Intuitionistic => true,
-        Logic::D => n == 1,
-        Logic::T => n <= 1,
-        Logic::S4 => true,
-        Logic::S5 => n <= 1,
-    }
-}
-
 // Whether n is not above the sum of both numbers.
 fn is_within(n: u32, count: usize, pis: u32) -> bool
     ensures { result ≡ true → n ≤ count + pis }
@@ -123,7 +110,7 @@ fn is_within(n: u32, count: usize, pis: u32) -> bool
 fn is_tried(logic: Logic, count: usize, pis: u32, n: u32) -> bool
     ensures { result ≡ true → is_tried_length logic (count + pis) n ≡ true }
 {
-    if is_step_length(logic, n) {
+    if logic.is_step_length(n as usize) {
         return is_within(n, count, pis);
     }
     false
@@ -154,13 +141,6 @@ fn checked(logic: Logic, system: &System, lengths: Vec<u32>) -> Option<Vec<u32>>
     None
 }
 
-fn least_length(logic: Logic) -> u32 {
-    match logic {
-        Logic::D => 1,
-        Logic::Classical | Logic::Intuitionistic | Logic::T | Logic::S4 | Logic::S5 => 0,
-    }
-}
-
 // Lengths of the strings by which the equations may hold: labels are as short as the order of
 // their beginnings allows. Nothing is promised but that they are tried.
 pub(crate) fn propose(
@@ -175,7 +155,7 @@ pub(crate) fn propose(
         AreTried logic (the_system system.now) lengths.items)) }
 {
     let strings = system.strings.items();
-    let least = least_length(logic);
+    let least = logic.least_length();
     let lengths = lengths_by(alloc, &tree.order, &tree.nodes, store, strings, least)?;
     let proposed = checked(logic, system, lengths);
     Ok(proposed)
