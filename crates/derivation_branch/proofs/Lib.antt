@@ -19,6 +19,9 @@
 --   so a number is never wrong; a term that is put again keeps its number (`put_again`).
 -- - Rows of the set differ and a row tells its term, so numbers are equal exactly where the terms are (`NumberLaws.numbers-told`): two
 --   variables of an axiom are compared in constant time once their bindings are reached (`Substitutions::are_equal`).
+-- - *Pairs of atoms.* `SameAtoms` has the pairs of entries that closed a sequent, by the places of their formulas in the outline and of their
+--   substitutions. One part of the formula stands at a place (`OutlineLaws.part-same`) and tables only grow, so a pair that is found is the
+--   same atom (`SameLaws.same-found`, `same-told`).
 -- - *What an instance brings.* `OccurrenceLaws.leaf-put`: a leaf stands in an instance where it stands in the formula, or in the term and
 --   the quantifier binds. `GrowthLaws`: components of an entry of the branch bring nothing (`plain-grown`, `first-grown`, `second-grown`),
 --   an instance brings the leaves of its term where the quantifier binds (`bound-grown`); characters are those of labels, or of the homes
@@ -35,5 +38,6 @@ pub mod OccurrenceLaws
 pub mod GrowthLaws
 pub mod ScopeLaws
 pub mod OutlineLaws
+pub mod SameLaws
 pub mod ChildLaws
 pub mod SubstitutionLaws

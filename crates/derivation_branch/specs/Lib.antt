@@ -5,3 +5,4 @@ pub mod EntryView
 pub mod AddedView
 pub mod Occurring
 pub mod OutlineView
+pub mod SameView

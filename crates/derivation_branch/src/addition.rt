@@ -7,12 +7,12 @@ ghost use Rattle.calculus.specs.Kinds.{components, shape_of};
 ghost use Rattle.calculus.specs.Syntax as tree;
 ghost use Rattle.derivation_branch.specs.AddedView.{AreAddedAt, PutsArgument, children_added};
 ghost use Rattle.derivation_branch.specs.EntryView.{formula_under, signed_under, the_shared};
-ghost use Rattle.derivation_branch.specs.OutlineView.{AreNodes, IsNode, IsNodeOf};
+ghost use Rattle.derivation_branch.specs.OutlineView.{AreNodes, IsNode, IsNodeOf, IsOutline};
 ghost use Rattle.formula_core.specs.ComponentsView.{the_signed};
 ghost use Rattle.formula_core.specs.FormulaView.{the_formula};
 
 use crate::entry::SharedEntry;
-use crate::outline::{Node, Outline};
+use crate::outline::Outline;
 use formula_core::{Components, Signed};
 
 /// The entries that a use step adds.
@@ -28,8 +28,8 @@ fn component<'a>(part: Signed<'a>, node: u32, substitution: u32, label: u32) -> 
     ensures entry { (table : List (List tree.Term)) → (labels : List derivation.Label)
         → the_shared table labels result ≡ entry_at (get_or labels label [])
         (signed_under table substitution (the_signed part.entry)) }
-    ensures placed { (nodes : List Node) → IsNode nodes node (the_signed part.entry).formula
-        → IsNodeOf nodes result }
+    ensures placed { (parts : List tree.Formula) → IsNode parts node (the_signed part.entry).formula
+        → IsNodeOf parts result }
     ensures under { result.substitution ≡ substitution }
     ensures labelled { result.label ≡ label }
 {
@@ -54,8 +54,8 @@ pub fn added_by<'a>(outline: &Outline, used: SharedEntry<'a>, inner: u32, label:
         s (get_or labels label []) (map (with_argument t) (components used.entry.sign
         (formula_under table used.entry.substitution (the_formula used.entry.formula.now)))) }
     ensures at { AreAddedAt used.entry.substitution inner label result }
-    ensures nodes { IsNodeOf outline.now.nodes.items used.entry
-        → AreNodes outline.now.nodes.items result }
+    ensures nodes { (parts : List tree.Formula) → IsOutline parts outline.now.nodes.items
+        → IsNodeOf parts used.entry → AreNodes parts result }
 {
     let outer = used.substitution;
     let last = used.node.saturating_sub(1);

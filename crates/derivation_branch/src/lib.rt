@@ -4,19 +4,22 @@
 
 mod addition;
 mod comparison;
+mod connection;
 mod entry;
 mod following;
 mod leaves;
 mod number_set;
 mod outline;
 mod row_set;
+mod same_atoms;
 mod scope;
 mod substitution;
 
 pub use addition::{Added, added_by};
-pub use comparison::are_same_atom;
-pub use entry::{SharedEntry, connects};
+pub use connection::connects;
+pub use entry::SharedEntry;
 pub use leaves::add_eigens;
 pub use number_set::NumberSet;
 pub use outline::{Node, Outline};
+pub use same_atoms::SameAtoms;
 pub use substitution::{Substitutions, Value};

@@ -1,9 +1,9 @@
 //! What is told of the parts of the problem's formula once, before the first step.
 
-ghost use Rattle.std.specs.Prelude.{◌≡◌, ◌<◌, ◌++◌, ◌∷◌, ◌||◌, [], ℕ, get_or, length, true, IfOk, OnOk};
+ghost use Rattle.std.specs.Prelude.{◌≡◌, ◌<◌, ◌++◌, ◌∷◌, ◌||◌, [], ℕ, List, get_or, length, true, IfOk, OnOk};
 ghost use Rattle.calculus.specs.Syntax as tree;
 ghost use Rattle.derivation_branch.specs.Occurring.{binds_at, quantifier_binds};
-ghost use Rattle.derivation_branch.specs.OutlineView.{IsNode, node, outline_of};
+ghost use Rattle.derivation_branch.specs.OutlineView.{IsNode, IsOutline, node, outline_of, parts_of};
 ghost use Rattle.formula_core.specs.FormulaView.{the_formula};
 
 use crate::scope::{Scope, meet_in_all};
@@ -80,7 +80,7 @@ impl Outline {
     /// The place of the whole formula.
     pub fn whole(&self) -> Result<u32, NoMemory>
         ensures { IfOk result (λ k. (f : tree.Formula) → self.now.nodes.items ≡ outline_of f
-            → IsNode self.now.nodes.items k f) }
+            → IsNode (parts_of f) k f) }
     {
         let place = place_of(self.nodes.len().saturating_sub(1))?;
         Ok(place)
@@ -88,8 +88,8 @@ impl Outline {
 
     /// Whether the part at a place is a quantifier that binds.
     pub fn binds(&self, place: u32) -> bool
-        ensures { (f : tree.Formula) → IsNode self.now.nodes.items place f
-            → result ≡ quantifier_binds f }
+        ensures { (parts : List tree.Formula) → (f : tree.Formula)
+            → IsOutline parts self.now.nodes.items → IsNode parts place f → result ≡ quantifier_binds f }
     {
         let place = place as usize;
         place < self.nodes.len() && self.nodes[place].binds

@@ -11,6 +11,7 @@ use Rattle.calculus.specs.Versions.{is_among, numbered}
 use Rattle.derivation_branch.specs.Putting.{IsClosed, is_var, value_at}
 use Rattle.label_table.specs.Longer.{IsLonger}
 use Rattle.label_table.proofs.TableLaws.{longer-at, longer-self, longer-size, pushed-at}
+use Rattle.derivation_branch.proofs.SameLaws.{same-longer}
 use Rattle.derivation_check.specs.NamesTold.{AreNamesOf, HomeTest, at_place, by_home}
 use Rattle.derivation_check.specs.StateView.{AreKept, IsKept, the_sequent}
 use Rattle.derivation_check.specs.OpenSequents.{sequents_of}
@@ -116,7 +117,10 @@ kept-put names s more long h = record {
   sequents = kept-longer names s.substitutions more s.labels s.labels s.eigens s.marks (sequents_of s.sequents) long (longer-self s.labels) h.sequents;
   homes = h.homes;
   told = h.told;
+  parts = h.parts;
+  outline = h.outline;
   nodes = h.nodes;
+  same = same-longer s.substitutions more h.parts s.same long h.same;
 }
 
 pub shown-put : (names : Names) (table more : List (List Term)) (labels : List Label) (E M : List ℕ) (ss : List (List BranchEntry)) → IsLonger table more → AreKept names table labels E M ss → map (the_sequent more labels) ss ≡ map (the_sequent table labels) ss

@@ -9,6 +9,8 @@ use Rattle.calculus.specs.Derivations.{Entry, Label, ModalArg, Names, Sequent, T
 use Rattle.calculus.specs.Kinds.{modal_of, shape_of}
 use Rattle.calculus.specs.Syntax.{Problem, Term}
 use Rattle.formula_core.specs.FormulaView.{the_formula}
+use Rattle.derivation_branch.specs.SameView.{AreSame}
+use Rattle.derivation_branch.specs.declared.same_atoms.Pair.{Pair}
 use Rattle.derivation_branch.proofs.PuttingLaws.{modal-all, shape-all}
 use Rattle.sequent_calc.specs.ChildrenView.{faulty}
 use Rattle.label_table.specs.LabelTable.{IsLabelAt}
@@ -30,7 +32,23 @@ kept-more names s more long h = record {
   sequents = kept-longer names s.substitutions s.substitutions s.labels more s.eigens s.marks (sequents_of s.sequents) (longer-self s.substitutions) long h.sequents;
   homes = homes-longer names s.labels more s.homes long h.homes;
   told = told-longer s.labels more s.marks s.told long h.told;
+  parts = h.parts;
+  outline = h.outline;
   nodes = h.nodes;
+  same = h.same;
+}
+
+-- more pairs that are the same atom
+pub kept-same : (names : Names) (s : State) (more : List Pair) (h : IsKept names s) → AreSame s.substitutions h.parts more → IsKept names (record s { same = more })
+kept-same names s more h same = record {
+  nested = h.nested;
+  sequents = h.sequents;
+  homes = h.homes;
+  told = h.told;
+  parts = h.parts;
+  outline = h.outline;
+  nodes = h.nodes;
+  same = same;
 }
 
 -- the step to the label at a place

@@ -5,14 +5,14 @@ use Rattle.calculus.specs.declared.setting.Logic.{Logic}
 use Rattle.calculus.specs.Calculus.{Children, eigen_occurs, character_occurs, label_after, entry_of}
 use Rattle.calculus.specs.Derivations.{Entry, Sequent, Label, Names, new_mark, ModalArg, TermArg, no_term, by_term, by_name}
 use Rattle.calculus.specs.Judgement.{open_after}
-use Rattle.calculus.specs.Syntax.{Term, eigen}
+use Rattle.calculus.specs.Syntax.{Formula, Term, eigen}
 use Rattle.derivation_branch.specs.EntryView.{IsWithin, the_shared}
 use Rattle.derivation_branch.specs.Occurring.{holds}
-use Rattle.derivation_branch.specs.OutlineView.{IsNodeOf}
+use Rattle.derivation_branch.specs.OutlineView.{IsNodeOf, IsOutline}
 use Rattle.derivation_branch.specs.Putting.{IsClosed, AreClosed}
+use Rattle.derivation_branch.specs.SameView.{AreSame}
 use Rattle.label_table.specs.LabelTable.{IsLabelAt}
 use Rattle.label_table.specs.Longer.{IsLonger}
-use Rattle.derivation_branch.specs.declared.outline.Node.{Node}
 use Rattle.derivation_check.specs.HomesView.{AreHomes}
 use Rattle.derivation_check.specs.OpenSequents.{IsNested, sequents_of}
 use Rattle.derivation_check.specs.ToldView.{AreTold}
@@ -66,21 +66,24 @@ abbrev pub AreKept : Names → List (List Term) → List Label → List ℕ → 
 AreKept names table labels eigens marks [] = ⊤
 AreKept names table labels eigens marks (s ∷ ss) = AreWithin table labels s × Tells names eigens marks (the_sequent table labels s) × Wait names table labels eigens marks ss
 
--- each entry is at its place in the outline of the problem's formula
-abbrev pub ArePlaced : List Node → List BranchEntry → Type 0
-ArePlaced nodes [] = ⊤
-ArePlaced nodes (x ∷ xs) = IsNodeOf nodes x.shared × ArePlaced nodes xs
+-- each entry is at its place among the parts of the problem's formula
+abbrev pub ArePlaced : List Formula → List BranchEntry → Type 0
+ArePlaced parts [] = ⊤
+ArePlaced parts (x ∷ xs) = IsNodeOf parts x.shared × ArePlaced parts xs
 
-abbrev pub AreAtNodes : List Node → List (List BranchEntry) → Type 0
-AreAtNodes nodes [] = ⊤
-AreAtNodes nodes (s ∷ ss) = ArePlaced nodes s × AreAtNodes nodes ss
+abbrev pub AreAtNodes : List Formula → List (List BranchEntry) → Type 0
+AreAtNodes parts [] = ⊤
+AreAtNodes parts (s ∷ ss) = ArePlaced parts s × AreAtNodes parts ss
 
 pub record IsKept (names : Names) (s : State) : Type 0 where
   pub nested : IsNested s.sequents
   pub sequents : AreKept names s.substitutions s.labels s.eigens s.marks (sequents_of s.sequents)
   pub homes : AreHomes names s.labels s.homes
   pub told : AreTold s.labels s.marks s.told
-  pub nodes : AreAtNodes s.outline.nodes.items (sequents_of s.sequents)
+  pub parts : List Formula
+  pub outline : IsOutline parts s.outline.nodes.items
+  pub nodes : AreAtNodes parts (sequents_of s.sequents)
+  pub same : AreSame s.substitutions parts s.same
 
 -- the homes of names, and what is told of those of terms, stay as they are, and substitutions stay at their places
 pub record IsLater (s t : State) : Type 0 where

@@ -17,7 +17,7 @@ use crate::term_names::{TermNames, all_names};
 use crate::term_places::put_terms;
 use crate::told_on_branch::ToldOnBranch;
 use cop_base::NoMemory;
-use derivation_branch::{NumberSet, Outline, SharedEntry, Substitutions};
+use derivation_branch::{NumberSet, Outline, SameAtoms, SharedEntry, Substitutions};
 use derivation_text::{TermList, TextDerivation};
 use formula_core::Sign;
 use label_table::Labels;
@@ -40,6 +40,8 @@ pub struct State<'a> {
     pub marks: NumberSet,
     /// Labels of steps and of homes whose marks are all among these.
     pub told: ToldOnBranch,
+    /// The pairs of entries that closed a sequent, which may close others.
+    pub same: SameAtoms,
 }
 
 impl<'a> State<'a> {
@@ -80,6 +82,7 @@ impl<'a> State<'a> {
         let eigens = NumberSet::new(alloc);
         let marks = NumberSet::new(alloc);
         let told = ToldOnBranch::new(alloc);
+        let same = SameAtoms::new(alloc);
         let state = State {
             outline,
             sequents,
@@ -90,6 +93,7 @@ impl<'a> State<'a> {
             eigens,
             marks,
             told,
+            same,
         };
         Ok((state, places))
     }

@@ -78,9 +78,10 @@ fn close_branch<'a>(
     let closes = connects(
         &state.substitutions,
         &state.labels,
+        &mut state.same,
         given.shared,
         shown.shared,
-    );
+    )?;
     if closes {
         state.close()?;
         Ok(())

@@ -60,38 +60,33 @@ returns-in-Delta-clause-added c = λ table labels t put s.
     ∙ sym (added-bound table e.substitution c.args.inner e.sign (the_formula e.formula.now) Delta (the_signed c.in-Delta.a) t s (get_or labels c.args.label []) refl (sym c.in-Delta.ensures.shape) (sym c.in-Delta.ensures.components) put)
 
 pub returns-in-One-clause-nodes : goal.returns-in-One-clause-nodes
-returns-in-One-clause-nodes c = λ h.
+returns-in-One-clause-nodes c = λ parts outline h.
     let e = c.args.used in
-    let nodes = c.args.outline.now.nodes.items in
     let f = the_formula e.formula.now in
-    c.component.ensures.placed nodes (subst (λ k. IsNode nodes k (the_signed c.in-One.a).formula) (sym c.saturating_sub-last.ensures) (component-one nodes e.node e.sign f (the_signed c.in-One.a) (shape-no e.sign f Alpha (λ x. x) c.in-One.ensures.shape) (sym c.in-One.ensures.components) h))
+    c.component.ensures.placed parts (subst (λ k. IsNode parts k (the_signed c.in-One.a).formula) (sym c.saturating_sub-last.ensures) (component-one parts e.node e.sign f (the_signed c.in-One.a) (shape-no e.sign f Alpha (λ x. x) c.in-One.ensures.shape) (sym c.in-One.ensures.components) h))
 
 pub returns-in-Gamma-clause-nodes : goal.returns-in-Gamma-clause-nodes
-returns-in-Gamma-clause-nodes c = λ h.
+returns-in-Gamma-clause-nodes c = λ parts outline h.
     let e = c.args.used in
-    let nodes = c.args.outline.now.nodes.items in
     let f = the_formula e.formula.now in
-    c.component-in-Gamma.ensures.placed nodes (subst (λ k. IsNode nodes k (the_signed c.in-Gamma.a).formula) (sym c.saturating_sub-last.ensures) (component-one nodes e.node e.sign f (the_signed c.in-Gamma.a) (shape-no e.sign f Gamma (λ x. x) c.in-Gamma.ensures.shape) (sym c.in-Gamma.ensures.components) h))
+    c.component-in-Gamma.ensures.placed parts (subst (λ k. IsNode parts k (the_signed c.in-Gamma.a).formula) (sym c.saturating_sub-last.ensures) (component-one parts e.node e.sign f (the_signed c.in-Gamma.a) (shape-no e.sign f Gamma (λ x. x) c.in-Gamma.ensures.shape) (sym c.in-Gamma.ensures.components) h))
 
 pub returns-in-Delta-clause-nodes : goal.returns-in-Delta-clause-nodes
-returns-in-Delta-clause-nodes c = λ h.
+returns-in-Delta-clause-nodes c = λ parts outline h.
     let e = c.args.used in
-    let nodes = c.args.outline.now.nodes.items in
     let f = the_formula e.formula.now in
-    c.component-in-Delta.ensures.placed nodes (subst (λ k. IsNode nodes k (the_signed c.in-Delta.a).formula) (sym c.saturating_sub-last.ensures) (component-one nodes e.node e.sign f (the_signed c.in-Delta.a) (shape-no e.sign f Delta (λ x. x) c.in-Delta.ensures.shape) (sym c.in-Delta.ensures.components) h))
+    c.component-in-Delta.ensures.placed parts (subst (λ k. IsNode parts k (the_signed c.in-Delta.a).formula) (sym c.saturating_sub-last.ensures) (component-one parts e.node e.sign f (the_signed c.in-Delta.a) (shape-no e.sign f Delta (λ x. x) c.in-Delta.ensures.shape) (sym c.in-Delta.ensures.components) h))
 
 pub returns-in-Alpha-clause-nodes : goal.returns-in-Alpha-clause-nodes
-returns-in-Alpha-clause-nodes c = λ h.
+returns-in-Alpha-clause-nodes c = λ parts outline h.
     let e = c.args.used in
-    let nodes = c.args.outline.now.nodes.items in
     let f = the_formula e.formula.now in
-    let both = component-two nodes e.node c.second.result e.sign f (the_signed c.in-Alpha.a) (the_signed c.in-Alpha.b) (node false 0) (sym c.in-Alpha.ensures.components) (c.second.ensures (node false 0)) h in
-    (c.component-in-Alpha.ensures.placed nodes (subst (λ k. IsNode nodes k (the_signed c.in-Alpha.a).formula) (sym (c.saturating_sub-other.ensures ∙ ap (λ m. m - c.second.result) c.saturating_sub-last.ensures)) both.0), c.component-in-Alpha-2.ensures.placed nodes (subst (λ k. IsNode nodes k (the_signed c.in-Alpha.b).formula) (sym c.saturating_sub-last.ensures) both.1))
+    let both = component-two parts c.args.outline.now.nodes.items e.node c.second.result e.sign f (the_signed c.in-Alpha.a) (the_signed c.in-Alpha.b) (node false 0) outline (sym c.in-Alpha.ensures.components) (c.second.ensures (node false 0)) h in
+    (c.component-in-Alpha.ensures.placed parts (subst (λ k. IsNode parts k (the_signed c.in-Alpha.a).formula) (sym (c.saturating_sub-other.ensures ∙ ap (λ m. m - c.second.result) c.saturating_sub-last.ensures)) both.0), c.component-in-Alpha-2.ensures.placed parts (subst (λ k. IsNode parts k (the_signed c.in-Alpha.b).formula) (sym c.saturating_sub-last.ensures) both.1))
 
 pub returns-in-Beta-clause-nodes : goal.returns-in-Beta-clause-nodes
-returns-in-Beta-clause-nodes c = λ h.
+returns-in-Beta-clause-nodes c = λ parts outline h.
     let e = c.args.used in
-    let nodes = c.args.outline.now.nodes.items in
     let f = the_formula e.formula.now in
-    let both = component-two nodes e.node c.second.result e.sign f (the_signed c.in-Beta.a) (the_signed c.in-Beta.b) (node false 0) (sym c.in-Beta.ensures.components) (c.second.ensures (node false 0)) h in
-    (c.component-in-Beta.ensures.placed nodes (subst (λ k. IsNode nodes k (the_signed c.in-Beta.a).formula) (sym (c.saturating_sub-other.ensures ∙ ap (λ m. m - c.second.result) c.saturating_sub-last.ensures)) both.0), c.component-in-Beta-2.ensures.placed nodes (subst (λ k. IsNode nodes k (the_signed c.in-Beta.b).formula) (sym c.saturating_sub-last.ensures) both.1))
+    let both = component-two parts c.args.outline.now.nodes.items e.node c.second.result e.sign f (the_signed c.in-Beta.a) (the_signed c.in-Beta.b) (node false 0) outline (sym c.in-Beta.ensures.components) (c.second.ensures (node false 0)) h in
+    (c.component-in-Beta.ensures.placed parts (subst (λ k. IsNode parts k (the_signed c.in-Beta.a).formula) (sym (c.saturating_sub-other.ensures ∙ ap (λ m. m - c.second.result) c.saturating_sub-last.ensures)) both.0), c.component-in-Beta-2.ensures.placed parts (subst (λ k. IsNode parts k (the_signed c.in-Beta.b).formula) (sym c.saturating_sub-last.ensures) both.1))

@@ -2,6 +2,8 @@ use Rattle.std.proofs.Common.{◌∙◌, ◌||◌, ◌&&◌, ap, refl, reverse, 
 use Rattle.calculus.specs.Calculus.{is_eigen}
 use Rattle.calculus.specs.Derivations.{Names, new_mark}
 use Rattle.derivation_branch.specs.Occurring.{holds, in_argument}
+use Rattle.derivation_branch.specs.OutlineView.{IsNodeOf}
+use Rattle.derivation_branch.proofs.SameLaws.{same-longer}
 use Rattle.label_table.proofs.TableLaws.{longer-more}
 use Rattle.formula_core.specs.FormulaView.{the_formula}
 use Rattle.derivation_check.proofs.HomesLaws.{argument-same}
@@ -61,9 +63,9 @@ returns c =
     let marks = c.add_brought_homes.new.marks in
     let now = sequents_of c.advance.new.self in
     let added = c.added_by-added.result in
-    let nodes = s.outline.nodes.items in
-    let node = node-stands nodes s.sequents.is_open xs forks c.args.used c.requires.is_open c.requires.kept.1.nodes c.requires.stands in
-    let binds = c.binds-binds.ensures (the_formula c.args.used.shared.formula.now) node in
+    let node : (names : Names) (h : IsKept names s) → IsNodeOf h.parts c.args.used.shared = λ names h. node-stands h.parts s.sequents.is_open xs forks c.args.used c.requires.is_open h.nodes c.requires.stands in
+    let kept = c.requires.kept.1 in
+    let binds = c.binds-binds.ensures kept.parts (the_formula c.args.used.shared.formula.now) kept.outline (node c.requires.kept.0 kept) in
     let after = c.in_ok-advance.ensures.advanced ∙ (λ i. after_added (c.in_ok-eigens.ensures i) (c.in_ok-marks.ensures i) added xs (waiting_in s.sequents)) in
     let growth : (names : Names) → IsKept names s → Growth names s.substitutions more s.labels s.eigens eigens s.marks marks s.sequents.is_open xs forks c.args.used c.in_ok-inner.inner c.args.at x t added now = λ names h. record {
       is_open = c.requires.is_open;
@@ -90,7 +92,10 @@ returns c =
         sequents = grown-kept names s.substitutions more s.labels s.eigens eigens s.marks marks s.sequents.is_open xs forks c.args.used c.in_ok-inner.inner c.args.at x t added now (growth names h);
         homes = h.homes;
         told = c.in_ok-add_brought_homes.ensures.there.homes;
-        nodes = nodes-added nodes s.sequents.is_open xs forks _ _ added now c.requires.is_open h.nodes (c.added_by-added.ensures.nodes node) after;
+        parts = h.parts;
+        outline = h.outline;
+        nodes = nodes-added h.parts s.sequents.is_open xs forks _ _ added now c.requires.is_open h.nodes (c.added_by-added.ensures.nodes h.parts h.outline (node names h)) after;
+        same = same-longer s.substitutions more h.parts s.same c.in_ok-inner.ensures.grown h.same;
       };
       grown = grown-shown c.requires.kept.0 s.substitutions more s.labels s.eigens eigens s.marks marks s.sequents.is_open xs forks c.args.used c.in_ok-inner.inner c.args.at x t added now (growth c.requires.kept.0 c.requires.kept.1);
       labels = refl;

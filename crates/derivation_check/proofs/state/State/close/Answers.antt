@@ -16,7 +16,10 @@ returns-in-Some-clause-kept c = λ names h.
           (subst (IsLastOf (waiting_in s.sequents)) c.in-Some.is c.in_ok-next.ensures.last) c.cut.ensures c.cut-in-Some.ensures;
       homes = h.homes;
       told = told-cut s.labels s.marks c.cut-in-Some.new.self c.in-Some.last.marks s.told c.cut-in-Some-2.new.self h.told c.cut-in-Some-2.ensures.begins c.cut-in-Some-2.ensures.counted c.cut-in-Some.ensures;
-      nodes = nodes-closed s.outline.nodes.items s.sequents.is_open s.sequents.branch.items (reverse s.sequents.forks.items) _ c.requires.is_open h.nodes c.in_ok-next.ensures.closed;
+      parts = h.parts;
+      outline = h.outline;
+      nodes = nodes-closed h.parts s.sequents.is_open s.sequents.branch.items (reverse s.sequents.forks.items) _ c.requires.is_open h.nodes c.in_ok-next.ensures.closed;
+      same = h.same;
     }
 
 pub returns-in-Some-clause-closed : goal.returns-in-Some-clause-closed
@@ -30,7 +33,10 @@ returns-in-None-clause-kept c = λ names h.
       sequents = ended-kept names s.substitutions s.labels s.eigens s.marks s.sequents.branch.items (reverse s.sequents.forks.items) _ c.in_ok-next.ensures.closed (subst (IsLastOf (waiting_in s.sequents)) c.in-None.is c.in_ok-next.ensures.last);
       homes = h.homes;
       told = h.told;
-      nodes = nodes-closed s.outline.nodes.items s.sequents.is_open s.sequents.branch.items (reverse s.sequents.forks.items) _ c.requires.is_open h.nodes c.in_ok-next.ensures.closed;
+      parts = h.parts;
+      outline = h.outline;
+      nodes = nodes-closed h.parts s.sequents.is_open s.sequents.branch.items (reverse s.sequents.forks.items) _ c.requires.is_open h.nodes c.in_ok-next.ensures.closed;
+      same = h.same;
     }
 
 pub returns-in-None-clause-closed : goal.returns-in-None-clause-closed

@@ -1,6 +1,8 @@
-use Rattle.std.proofs.Common.{ap, arith, length, refl, subst, sym}
+use Rattle.std.proofs.Common.{◌∙◌, ap, arith, length, refl, subst, sym}
 use Rattle.calculus.specs.Versions.{stated}
 use Rattle.formula_core.specs.FormulaView.{the_formula}
+use Rattle.derivation_branch.specs.OutlineView.{parts_of}
+use Rattle.derivation_branch.proofs.OutlineLaws.{outline-parts}
 use Rattle.derivation_check.specs.ArgumentView.{ArePlaces}
 use Rattle.derivation_check.specs.NamesTold.{AreNamed}
 use Rattle.derivation_check.proofs.NodeLaws.{nodes-first}
@@ -10,6 +12,7 @@ use Rattle.derivation_check.proofs.state.State.new.Goals as goal
 pub returns-clause-kept : goal.returns-clause-kept
 returns-clause-kept c =
     let x = c.args.d.now in
+    let f = the_formula c.formula-formula.result.now in
     let labels = c.add_labels.new.table in
     let places = subst (λ ps. ArePlaces x.labels labels ps) (sym c.as_slice.ensures.value) (subst (λ ls. ArePlaces ls labels c.in_ok-places.places.items) c.labels.ensures.list c.in_ok-places.ensures.places) in
     record {
@@ -17,7 +20,10 @@ returns-clause-kept c =
       sequents = first-state (stated x).names c.args.problem.now _ _ _ _ _ _ _ c.new-substitutions.ensures c.new-labels.ensures c.in_ok-places.ensures.grown c.new-eigens.ensures c.new-marks.ensures c.in_ok-sequents.ensures.sequents refl refl c.formula-formula.ensures.formula c.formula-formula.ensures.well;
       homes = c.in_ok-homes.ensures labels places;
       told = rw c.new-told.ensures tt;
-      nodes = nodes-first c.in_ok-outline.outline.nodes.items _ _ c.in_ok-sequents.ensures.sequents (c.in_ok-node.ensures (the_formula c.formula-formula.result.now) c.in_ok-outline.ensures);
+      parts = parts_of f;
+      outline = c.in_ok-outline.ensures ∙ outline-parts f;
+      nodes = nodes-first (parts_of f) _ _ c.in_ok-sequents.ensures.sequents (c.in_ok-node.ensures f c.in_ok-outline.ensures);
+      same = rw c.new-same.ensures tt;
     }
 
 pub returns-clause-first : goal.returns-clause-first
